@@ -1,0 +1,6 @@
+pub mod Name
+pub mod Order
+pub mod Packed
+pub mod Size
+pub mod Text
+pub mod WellFormed

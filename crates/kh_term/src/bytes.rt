@@ -1,0 +1,99 @@
+ghost use Rattle.std.specs.Prelude.{◌≡◌, ◌↔◌, IfOk, IsSome, IfSome, IsTrue, ℕ, List};
+ghost use Rattle.std.specs.Str.{is_utf8};
+ghost use Rattle.kh_term.specs.Text.{is_atom_text};
+
+use crate::memory::NoMemory;
+use std::alloc::Global;
+use std::marker::Model;
+
+/// Any bytes, as a binary has them.
+#[derive(Debug, Drop)]
+pub struct Bytes {
+    bytes: Vec<u8>,
+}
+
+impl Model for Bytes {
+    ghost use Rattle.std.specs.Prelude.{List, ℕ};
+
+    ghost Value = { List ℕ };
+
+    ghost view = { λ b. b.bytes.items };
+}
+
+impl Bytes {
+    pub fn new(bytes: Vec<u8>) -> Bytes
+        ensures { result ≡ bytes.items }
+    {
+        Bytes { bytes }
+    }
+
+    pub fn as_slice(&self) -> &[u8]
+        ensures { result.now ≡ self.now }
+    {
+        self.bytes.as_slice()
+    }
+
+    pub fn copy(&self, alloc: Global) -> Result<Bytes, NoMemory>
+        ensures { IfOk result (λ b. b ≡ self.now) }
+    {
+        let bytes = Vec::from_slice(alloc, self.bytes.as_slice())?;
+        Ok(Bytes { bytes })
+    }
+}
+
+// Whether bytes are UTF-8.
+fn is_text(bytes: &[u8]) -> bool
+    ensures { result ≡ is_utf8 bytes.now }
+{
+    match std::str::from_utf8(bytes) {
+        Ok(_) => true,
+        Err(_) => false,
+    }
+}
+
+/// The text of an atom: UTF-8 of at most 255 bytes.
+#[derive(Debug, Drop)]
+pub struct Atom {
+    text: Vec<u8>,
+}
+
+impl Model for Atom {
+    ghost use Rattle.std.specs.Prelude.{List, ℕ, IsTrue};
+    ghost use Rattle.kh_term.specs.Text.{is_atom_text};
+
+    ghost Value = { List ℕ };
+
+    ghost view = { λ a. a.text.items };
+
+    ghost invariant = { λ a. IsTrue (is_atom_text a.text.items) };
+}
+
+impl Atom {
+    /// The atom of this text, where it is one.
+    pub fn new(text: Vec<u8>) -> Option<Atom>
+        ensures accepts { IsSome result ↔ IsTrue (is_atom_text text.items) }
+        ensures value { IfSome result (λ a. a ≡ text.items) }
+    {
+        if text.len() > 255 {
+            return None;
+        }
+        if !is_text(text.as_slice()) {
+            return None;
+        }
+        Some(Atom { text })
+    }
+
+    pub fn as_slice(&self) -> &[u8]
+        ensures text { result.now ≡ self.now }
+        ensures fits { IsTrue (is_atom_text self.now) }
+    {
+        self.text.as_slice()
+    }
+
+    pub fn copy(&self, alloc: Global) -> Result<Atom, NoMemory>
+        ensures { IfOk result (λ a. a ≡ self.now) }
+    {
+        let text = Vec::from_slice(alloc, self.text.as_slice())?;
+        Ok(Atom { text })
+    }
+}
