@@ -1,2 +1,6 @@
-//! The text of terms and forms: definitions alone, for those who read, print and answer.
+//! The text of terms and forms: the definitions that reading, printing and answering share, and the tests of words.
 #![tactic(auto)]
+
+mod words;
+
+pub use words::{is_plain, is_plain_word, is_reserved, is_word_byte};
