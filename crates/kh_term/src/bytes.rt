@@ -1,10 +1,16 @@
 ghost use Rattle.std.specs.Prelude.{◌≡◌, ◌↔◌, IfOk, IsSome, IfSome, IsTrue, ℕ, List};
 ghost use Rattle.std.specs.Str.{is_utf8};
-ghost use Rattle.kh_term.specs.Text.{is_atom_text};
+ghost use Rattle.kh_term.specs.Text.{is_atom_text, are_bytes};
 
 use crate::memory::NoMemory;
 use std::alloc::Global;
 use std::marker::Model;
+
+// Each byte is below 256.
+fn are_in_range(bytes: &[u8])
+    ensures { IsTrue (are_bytes bytes.now) }
+{
+}
 
 /// Any bytes, as a binary has them.
 #[derive(Debug, Drop)]
@@ -13,22 +19,27 @@ pub struct Bytes {
 }
 
 impl Model for Bytes {
-    ghost use Rattle.std.specs.Prelude.{List, ℕ};
+    ghost use Rattle.std.specs.Prelude.{List, ℕ, IsTrue};
+    ghost use Rattle.kh_term.specs.Text.{are_bytes};
 
     ghost Value = { List ℕ };
 
     ghost view = { λ b. b.bytes.items };
+
+    ghost invariant = { λ b. IsTrue (are_bytes b.bytes.items) };
 }
 
 impl Bytes {
     pub fn new(bytes: Vec<u8>) -> Bytes
         ensures { result ≡ bytes.items }
     {
+        are_in_range(bytes.as_slice());
         Bytes { bytes }
     }
 
     pub fn as_slice(&self) -> &[u8]
-        ensures { result.now ≡ self.now }
+        ensures bytes { result.now ≡ self.now }
+        ensures fits { IsTrue (are_bytes self.now) }
     {
         self.bytes.as_slice()
     }
