@@ -1,18 +1,16 @@
 -- Which trees are terms, variant by variant, and what their parts are.
-use Rattle.std.proofs.Common.{◌≡◌, ℕ, ◌+◌, ◌<◌, ◌^◌, Bool, true, false, ◌&&◌, not, IsTrue, nat_le, nat_lt, List, [], ◌∷◌, ◌++◌, length, map, sum, refl, ap, sym, ◌∙◌, subst, ℤ, pos, negsuc, of_z, to_z, SFits, arith}
+use Rattle.std.proofs.Common.{◌≡◌, ℕ, ◌+◌, ◌^◌, Bool, true, false, not, IsTrue, nat_le, List, [], ◌∷◌, ◌++◌, length, map, sum, refl, ap, sym, ◌∙◌, subst, ℤ, pos, negsuc, of_z, to_z, SFits, arith}
 use Rattle.std.specs.Int.{w128}
-use Rattle.std.proofs.lemmas.Bool.{and_from, and_parts}
+use Rattle.std.proofs.lemmas.Bool.{and_from}
 use Rattle.std.proofs.lemmas.Int.{to_z-of_z}
 use Rattle.std.proofs.lemmas.List.Sums.{sum-map, sum_by-cons, sum_by_push}
 use borrow.Author.Tests.{lt-ltb}
 use Rattle.kh_term.specs.declared.name.Origin.{Origin}
-use Rattle.kh_term.specs.declared.term.Term.{Term}
-use Rattle.kh_term.specs.declared.tree.TermTree.{TermTree, out-TermTree}
+use Rattle.kh_term.specs.declared.tree.TermTree.{TermTree}
 use Rattle.kh_term.specs.declared.tree.TermTree.TheVariants as tree
 use Rattle.kh_term.specs.declared.tree.TermTree.TheVariants.{outs-Nil}
 use Rattle.kh_term.specs.Text.{is_atom_text, are_bytes}
-use Rattle.kh_term.specs.WellFormed.{IsTerm, AreTerms, ArePairs, faults_of, fault_unless, fits_128, keys_rise, is_list_of, is_list, is_origin}
-use Rattle.kh_term.specs.Make.{list_of}
+use Rattle.kh_term.specs.WellFormed.{IsTerm, AreTerms, ArePairs, faults_of, fault_unless, fits_128, is_list_of, is_list, is_origin}
 use Rattle.kh_term.proofs.Layers.{faults-Int, faults-Atom, faults-Bin, faults-Nil, faults-List, faults-Tuple, faults-Map, faults-Closure}
 
 -- a test that holds breaks no rule

@@ -1,24 +1,18 @@
 -- What each definition over terms says of each variant.
-use Rattle.std.proofs.Common.{◌≡◌, ℕ, suc, ◌+◌, ◌/◌, max, Bool, ◌&&◌, nat_le, if◌then◌else◌, List, [], ◌∷◌, ◌++◌, length, map, sum, refl, ap, sym, ◌∙◌, ℤ}
+use Rattle.std.proofs.Common.{◌≡◌, ℕ, suc, ◌+◌, ◌/◌, max, ◌&&◌, nat_le, if◌then◌else◌, List, [], ◌∷◌, ◌++◌, length, map, sum, refl, ap, sym, ◌∙◌, ℤ}
 use Rattle.std.specs.List.{flat_map}
 use Rattle.std.specs.Int.{to_be_bytes, w32}
-use Rattle.std.specs.declared.cmp.Ordering.{Ordering}
-use Rattle.std.specs.declared.cmp.Ordering.TheVariants.{Less, Equal, Greater}
-use Rattle.std.specs.Ordering.{nat_cmp, int_cmp, ordering_then}
-use Rattle.std.specs.Cmp.Lexicographic.{slice_cmp}
 use Rattle.kh_term.specs.declared.name.Origin.{Origin}
 use Rattle.kh_term.specs.declared.tree.TermTree.{TermTree, out-TermTree}
 use Rattle.kh_term.specs.declared.tree.TermTree.TheVariants as tree
 use Rattle.kh_term.specs.declared.tree.TermTree.TheVariants.{rolls-Int, rolls-Atom, rolls-Bin, rolls-Nil, rolls-List, rolls-Tuple, rolls-Map, rolls-Closure}
-use Rattle.kh_term.specs.declared.tree.TermTree.TheViews.{roll-TermTree}
 use Rattle.kh_term.specs.declared.tree.TermTree.TheOpen.{TermTree-F}
 use Rattle.kh_term.specs.declared.tree.TermTree.TheOpen as layer
 use Rattle.kh_term.specs.declared.tree.TermTree.TheFolds.{fold-roll-TermTree, para-roll-TermTree}
 use Rattle.kh_term.specs.Text.{is_atom_text, are_bytes}
-use Rattle.kh_term.specs.WellFormed.{faults_of, fault_step, fault_unless, fits_128, keys_rise, is_list_of, is_origin, part_faults}
+use Rattle.kh_term.specs.WellFormed.{faults_of, fault_step, fault_unless, fits_128, keys_rise, is_list_of, is_origin}
 use Rattle.kh_term.specs.Size.{size_of, size_step, sizes_of, pair_sizes_of, depth_of, depth_step, greatest, is_nil, width_of, width_step}
 use Rattle.kh_term.specs.Packed.{packed_of, packed_step, all_packed_of, pairs_packed_of, integer_len, integer_bytes, short_text, count_bytes}
-use Rattle.kh_term.specs.Order.{term_cmp, compare_layers, Compared}
 
 -- the results beside the parts are the results of the parts
 results : {A B : Type 0} (f : A → B) (xs : List A) → map {A = A × B} {B = B} (λ p. p.1) (map (λ y. (y, f y)) xs) ≡ map f xs
@@ -71,7 +65,7 @@ pub faults-Map : (pairs : List (TermTree × TermTree)) → faults_of (tree.Map p
 faults-Map pairs =
     ap faults_of (sym (rolls-Map pairs)) ∙ (para-roll-TermTree ℕ fault_step (layer.Map pairs)
     ∙ (λ i. fault_unless (keys_rise (joined {A = TermTree × TermTree} {B = (TermTree × ℕ) × (TermTree × ℕ)} (λ p. ((p.0, faults_of p.0), (p.1, faults_of p.1))) (λ p. p.0.0) pairs i))
-          + sum (joined {A = TermTree × TermTree} {B = (TermTree × ℕ) × (TermTree × ℕ)} (λ p. ((p.0, faults_of p.0), (p.1, faults_of p.1))) (λ p. p.0.1 + p.1.1) pairs i)))
+    + sum (joined {A = TermTree × TermTree} {B = (TermTree × ℕ) × (TermTree × ℕ)} (λ p. ((p.0, faults_of p.0), (p.1, faults_of p.1))) (λ p. p.0.1 + p.1.1) pairs i)))
 
 pub faults-Closure : (origin : Origin) (env : List TermTree) → faults_of (tree.Closure origin env) ≡ fault_unless (is_origin origin && nat_le (length env) origin.arity) + sum (map faults_of env)
 faults-Closure origin env =
@@ -167,7 +161,7 @@ pub width-Map : (pairs : List (TermTree × TermTree)) → width_of (tree.Map pai
 width-Map pairs =
     ap width_of (sym (rolls-Map pairs)) ∙ (fold-roll-TermTree ℕ width_step (layer.Map pairs)
     ∙ (λ i. max (length_beside {A = TermTree × TermTree} {B = ℕ × ℕ} (λ p. (width_of p.0, width_of p.1)) pairs i)
-          (greatest (joined {A = TermTree × TermTree} {B = ℕ × ℕ} (λ p. (width_of p.0, width_of p.1)) (λ p. max p.0 p.1) pairs i))))
+    (greatest (joined {A = TermTree × TermTree} {B = ℕ × ℕ} (λ p. (width_of p.0, width_of p.1)) (λ p. max p.0 p.1) pairs i))))
 
 pub width-Closure : (origin : Origin) (env : List TermTree) → width_of (tree.Closure origin env) ≡ max (length env) (greatest (map width_of env))
 width-Closure origin env =
@@ -201,10 +195,9 @@ pub packed-Map : (pairs : List (TermTree × TermTree)) → packed_of (tree.Map p
 packed-Map pairs =
     ap packed_of (sym (rolls-Map pairs)) ∙ (fold-roll-TermTree (List ℕ) packed_step (layer.Map pairs)
     ∙ (λ i. 7 ∷ (to_be_bytes w32 (length_beside {A = TermTree × TermTree} {B = List ℕ × List ℕ} (λ p. (packed_of p.0, packed_of p.1)) pairs i)
-          ++ pieces {A = TermTree × TermTree} {B = List ℕ × List ℕ} (λ p. (packed_of p.0, packed_of p.1)) (λ p. p.0 ++ p.1) pairs i)))
+    ++ pieces {A = TermTree × TermTree} {B = List ℕ × List ℕ} (λ p. (packed_of p.0, packed_of p.1)) (λ p. p.0 ++ p.1) pairs i)))
 
 pub packed-Closure : (origin : Origin) (env : List TermTree) → packed_of (tree.Closure origin env) ≡ 8 ∷ (short_text origin.module ++ (short_text origin.name ++ (origin.arity ∷ length env ∷ all_packed_of env)))
 packed-Closure origin env =
     ap packed_of (sym (rolls-Closure origin env)) ∙ (fold-roll-TermTree (List ℕ) packed_step (layer.Closure origin env)
     ∙ (λ i. 8 ∷ (short_text origin.module ++ (short_text origin.name ++ (origin.arity ∷ length_beside packed_of env i ∷ pieces packed_of (λ p. p) env i)))))
-

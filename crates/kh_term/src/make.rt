@@ -1,11 +1,12 @@
 //! Making terms of their parts.
 ghost use Rattle.std.specs.Prelude.{◌≡◌, ◌≤◌, ◌≢◌, [], ◌∷◌, ◌++◌, length, IfOk, OnOk, OnErr};
 ghost use Rattle.kh_term.specs.declared.tree.TermTree.TheVariants as tree;
-ghost use Rattle.kh_term.specs.Make.{list_of};
+ghost use Rattle.kh_term.specs.Make.{list_of, name_tree, path_tree};
 
 use crate::bytes::{Atom, Bytes};
 use crate::memory::NoMemory;
-use crate::name::Origin;
+use crate::name::{Name, Origin};
+use crate::path::Path;
 use crate::term::{Pairs, Term, Terms};
 use crate::tree::TermTree;
 use sqlite_items::{Boxed, Items};
@@ -115,4 +116,25 @@ pub fn map_of_one(alloc: Global, key: Term, value: Term) -> Result<Term, NoMemor
     Ok(Term {
         node: TermTree::Map(nodes),
     })
+}
+
+/// The atom or the binary of a name.
+pub fn term_of_name(alloc: Global, name: &Name) -> Result<Term, NoMemory>
+    ensures { IfOk result (λ t. t.node ≡ name_tree name.now) }
+{
+    match name {
+        Name::Atom(text) => Ok(atom(text.copy(alloc)?)),
+        Name::Bin(bytes) => Ok(bin(bytes.copy(alloc)?)),
+    }
+}
+
+/// The list of the names of a path.
+pub fn path_term(alloc: Global, path: &Path) -> Result<Term, NoMemory>
+    ensures { IfOk result (λ t. t.node ≡ path_tree path.now) }
+{
+    let mut terms = Terms::new(alloc);
+    for name in path.names() {
+        terms.push(term_of_name(alloc, name)?)?;
+    }
+    list(alloc, terms)
 }

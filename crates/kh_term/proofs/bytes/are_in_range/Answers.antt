@@ -1,4 +1,4 @@
-use Rattle.std.proofs.Common.{◌≡◌, true, nat_lt, IsTrue, ℕ, suc, List, [], ◌∷◌, Fits, w8, get_or, refl, arith}
+use Rattle.std.proofs.Common.{◌≡◌, true, nat_lt, ℕ, suc, List, [], ◌∷◌, Fits, w8, get_or, refl, arith}
 use Rattle.std.proofs.lemmas.Bool.{and_from}
 use borrow.Author.Tests.{lt-ltb}
 use Rattle.kh_term.specs.Text.{are_bytes}
