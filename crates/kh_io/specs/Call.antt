@@ -1,5 +1,5 @@
 -- The calls of a host, as its journal lists them.
-use Rattle.std.specs.Prelude.{ℕ, List, Option, Some, None, Result, Ok, Err, take}
+use Rattle.std.specs.Prelude.{ℕ, ◌+◌, ◌*◌, List, length, sum_by, Option, Some, None, Result, Ok, Err, take}
 use Rattle.kh_io.specs.declared.failed.Failed.{Failed}
 
 -- a call of a host with its arguments and its answer, which is `None` where the call failed
@@ -18,3 +18,17 @@ answer (Err _) = None
 abbrev pub front_given : Result ℕ Failed → List ℕ → Option (List ℕ)
 front_given (Ok n) buffer = Some (take n buffer)
 front_given (Err _) _ = None
+
+-- the length of the bytes of an answer
+abbrev pub answered_len : Option (List ℕ) → ℕ
+answered_len None = 0
+answered_len (Some bytes) = length bytes
+
+-- how many bytes a call moves: those that it is handed, or those that it answers
+abbrev pub moved : Call → ℕ
+moved (Take asked bytes) = answered_len bytes
+moved (Give piece taken) = length piece
+
+-- what calls take of a room: 64 for each, and one for each byte that they move
+abbrev pub cost : List Call → ℕ
+cost calls = 64 * length calls + sum_by moved calls

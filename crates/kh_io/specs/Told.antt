@@ -26,3 +26,8 @@ Rose old new = old < 2 ^ 64 - 1 → old < new
 -- the first list is the front of the second
 abbrev pub IsFrontOf : {A : Type 0} → List A → List A → Type 0
 IsFrontOf {A} front whole = (rest : List A) × (whole ≡ front ++ rest)
+
+-- how often a host has failed
+pub record Faults : Type 0 where
+  pub reads : ℕ
+  pub writes : ℕ

@@ -2,7 +2,18 @@
 #![tactic(auto)]
 
 mod failed;
+mod files;
 mod host;
+mod journal;
+mod memory;
+mod real;
+mod room;
 
 pub use failed::{Failed, NoMemory};
+pub use files::{FileBytes, Files};
 pub use host::Host;
+pub use memory::MemoryHost;
+pub use real::RealHost;
+
+#[cfg(test)]
+mod tests;
