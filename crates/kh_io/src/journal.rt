@@ -1,0 +1,84 @@
+//! The calls of a host in memory, with the bytes that they move.
+ghost use Rattle.std.specs.Prelude.{◌≡◌, ◌+◌, ◌*◌, ◌/◌, ◌<◌, ◌≤◌, ◌↔◌, ℕ, List, [], ◌∷◌, ◌++◌, length, IfOk, IsTrue, vec_len, vec_capacity, sum_by};
+ghost use Rattle.kh_io.specs.Kept.{Kept, Fits};
+
+use crate::{NoMemory, room};
+use std::alloc::Global;
+use std::marker::Model;
+
+/// What each call takes of the room beside its bytes.
+const PER_CALL: u64 = 64;
+
+/// A call without its bytes.
+#[derive(Clone, Copy)]
+pub enum Entry {
+    Taken { asked: usize, count: Option<usize> },
+    Given { len: usize, count: Option<usize> },
+}
+
+/// The calls so far, and room for more.
+#[derive(Drop)]
+pub struct Journal {
+    entries: Vec<Entry>,
+    bytes: Vec<u8>,
+    room: u64,
+}
+
+impl Model for Journal {
+    ghost use Rattle.std.specs.Prelude.{◌≡◌, ◌+◌, ◌*◌, ◌/◌, ◌≤◌, ℕ, length, sum_by, vec_capacity};
+    ghost use Rattle.kh_io.specs.Kept.{Kept};
+
+    ghost Value = { Kept };
+
+    ghost use Rattle.kh_io.specs.Entry.{calls_of, byte_count};
+
+    ghost view = { λ j. record { calls = calls_of j.entries.items j.bytes.items; room = j.room } };
+
+    ghost invariant = { λ j. (sum_by byte_count j.entries.items ≡ length j.bytes.items)
+        × (64 * length j.entries.items + length j.bytes.items ≤ j.room)
+        × (j.room / 64 ≤ vec_capacity j.entries)
+        × (j.room ≤ vec_capacity j.bytes) };
+}
+
+impl Journal {
+    ghost use Rattle.kh_io.specs.Entry.{byte_count, call_of};
+
+    /// An empty journal, which takes the memory of its room.
+    pub fn new(alloc: Global, room: u64) -> Result<Journal, NoMemory>
+        ensures { IfOk result (λ j. j ≡ record { calls = []; room = room }) }
+    {
+        let entries = Vec::with_capacity(alloc, (room / PER_CALL) as usize)?;
+        let bytes = Vec::with_capacity(alloc, room as usize)?;
+        Ok(Journal {
+            entries,
+            bytes,
+            room,
+        })
+    }
+
+    /// The number of calls.
+    pub fn len(&self) -> usize
+        ensures { result ≡ length self.now.calls }
+    {
+        self.entries.len()
+    }
+
+    /// Whether one more call that moves n bytes is within the room.
+    pub fn fits(&self, n: usize) -> bool
+        ensures { IsTrue result ↔ Fits self.now.calls self.now.room n }
+    {
+        let used = PER_CALL * self.entries.len() as u64 + self.bytes.len() as u64;
+        let free = self.room - used;
+        free >= PER_CALL && free - PER_CALL >= n as u64
+    }
+
+    /// Adds a call.
+    pub fn add(&mut self, entry: Entry, bytes: &[u8])
+        requires sizes { byte_count entry ≡ length bytes.now }
+        requires fits { Fits self.old.calls self.old.room (length bytes.now) }
+        ensures { self.new ≡ record { calls = self.old.calls ++ call_of entry bytes.now ∷ []; room = self.old.room } }
+    {
+        self.entries.push_reserved(entry);
+        room::append(&mut self.bytes, bytes);
+    }
+}
