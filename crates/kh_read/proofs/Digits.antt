@@ -1,18 +1,14 @@
 -- What a text of digits is.
-use Rattle.std.proofs.Common.{◌≡◌, ℕ, ◌+◌, ◌<◌, ◌≤◌, ◌^◌, Bool, true, false, cond, ◌&&◌, leb, eqb, List, [], ◌∷◌, length, take, drop, get_or, refl, sym, ap, ◌∙◌, arith}
-use Rattle.std.specs.Prelude.{IsTrue}
+use Rattle.std.proofs.Common.{◌≡◌, ℕ, ◌<◌, ◌≤◌, ◌^◌, Bool, true, false, ◌&&◌, leb, eqb, List, [], ◌∷◌, length, get_or, refl, ap, arith}
 use Rattle.std.specs.Char.{is_ascii_digit}
-use Rattle.std.specs.List.{prefix_len, list_all}
-use Rattle.std.specs.Int.{IsInRange}
-use Rattle.std.specs.Str.{all_ascii_digits, IsUtf8, IsAscii}
+use Rattle.std.specs.List.{list_all}
+use Rattle.std.specs.Str.{all_ascii_digits, IsUtf8}
 use Rattle.std.specs.Str.Parse.{AllDigits, IsNumeral, digits_value, without_leading_plus}
 use Rattle.std.proofs.lemmas.Bool.{leb-true, le-leb}
 use Rattle.std.proofs.lemmas.Bool.Decides.{nat_tests}
 use Rattle.std.proofs.lemmas.Str.{IsUtf8-from_ascii}
 use Rattle.std.proofs.lemmas.Fmt.{IsAscii-from_digits}
 use Rattle.std.proofs.lemmas.Str.Parse.{IsNumeralModel, numerals_by_value, tells_all_ascii_digits, digits_value_short, digit_at}
-use Rattle.std.proofs.lemmas.List.Folds.{length-prefix_len}
-use Rattle.kh_read.proofs.Fronts.{front_passes}
 use Rattle.kh_read.specs.Form.{are_digits}
 
 -- both parts of a test hold
@@ -60,12 +56,6 @@ all_digits-list_all : (text : List ℕ) → all_ascii_digits text ≡ list_all i
 all_digits-list_all [] = refl
 all_digits-list_all (b ∷ text) = ap (λ t. is_ascii_digit b && t) (all_digits-list_all text)
 
--- 1 to 18 digits at the front of bytes are digits
-pub front_digits : (bytes : List ℕ) → 1 ≤ prefix_len is_ascii_digit bytes → prefix_len is_ascii_digit bytes ≤ 18
-    → are_digits (take (prefix_len is_ascii_digit bytes) bytes) ≡ true
-front_digits bytes some few =
-    let count = prefix_len is_ascii_digit bytes in
-    let len : length (take count bytes) ≡ count = length-prefix_len is_ascii_digit bytes in
-    let least : leb 1 (length (take count bytes)) ≡ true = le-leb _ _ (omega arith) in
-    let most : leb (length (take count bytes)) 18 ≡ true = le-leb _ _ (omega arith) in
-    rw (least, most, all_digits-list_all (take count bytes)) (front_passes is_ascii_digit bytes)
+-- 1 to 18 bytes that are digits each
+pub are_digits_from : (text : List ℕ) → 1 ≤ length text → length text ≤ 18 → list_all is_ascii_digit text ≡ true → are_digits text ≡ true
+are_digits_from text some few each = rw (le-leb _ _ some, le-leb _ _ few, all_digits-list_all text) each

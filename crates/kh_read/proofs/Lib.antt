@@ -1,6 +1,10 @@
+pub mod Steps
 pub mod Fronts
 pub mod Digits
 pub mod Names
-pub mod Steps
 pub mod Words
 pub mod NamesRead
+pub mod Paths
+pub mod FormRead
+pub mod Grows
+pub mod Place

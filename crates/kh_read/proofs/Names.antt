@@ -1,9 +1,9 @@
 -- Reading names one after another, as a loop does.
-use Rattle.std.proofs.Common.{◌≡◌, ℕ, suc, ◌+◌, ◌-◌, ◌<◌, ◌≤◌, Bool, true, false, List, [], ◌∷◌, ◌++◌, Ok, Err, refl, sym, ap, ◌∙◌, append_assoc, arith}
+use Rattle.std.proofs.Common.{◌≡◌, ℕ, suc, ◌+◌, ◌-◌, ◌<◌, ◌≤◌, true, false, List, [], ◌∷◌, ◌++◌, Ok, Err, refl, sym, ap, ◌∙◌, append_assoc, arith}
 use Rattle.kh_term.specs.declared.name.Name.{Name}
 use Rattle.kh_read.specs.declared.error.ReadError.{ReadError}
 use Rattle.kh_read.specs.declared.error.ReadError.TheVariants as errors
-use Rattle.kh_read.specs.Reading.{◌>>=◌, Read, Stop, Cut, Fault, Fails, name_at, comma_at, names_at}
+use Rattle.kh_read.specs.Reading.{◌>>=◌, Read, Cut, Fault, Fails, name_at, comma_at, names_at}
 
 -- what was read before, and what is still read
 abbrev pub with_front : List Name → Read (List Name) → Read (List Name)
@@ -22,7 +22,7 @@ unfolding names_at
 goes_on front room i bytes first after rest total lt named comma so_far =
     let left : room - i ≡ suc (room - (i + 1)) = omega arith in
     let one : with_front front (names_at (room - i) bytes) ≡ with_front (front ++ first ∷ []) (names_at (room - (i + 1)) rest) =
-        rw (left, named, comma) (regroup front first (names_at (room - (i + 1)) rest)) in
+    rw (left, named, comma) (regroup front first (names_at (room - (i + 1)) rest)) in
     sym one ∙ so_far
 
 -- the last name, behind which the bracket stands

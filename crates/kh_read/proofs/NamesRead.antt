@@ -1,15 +1,15 @@
 -- What names that were read are.
-use Rattle.std.proofs.Common.{◌≡◌, ℕ, zero, suc, ◌+◌, ◌<◌, ◌≤◌, Bool, true, false, cond, ◌&&◌, leb, eqb, List, [], ◌∷◌, ◌++◌, length, map, Ok, Err, refl, sym, ap, subst, ◌∙◌, append_assoc, arith}
-use Rattle.std.specs.List.{list_all, join_with_byte}
+use Rattle.std.proofs.Common.{◌≡◌, ℕ, zero, suc, ◌≤◌, Bool, true, false, cond, eqb, List, [], ◌∷◌, ◌++◌, length, map, Ok, Err, refl, sym, ap, subst, ◌∙◌, append_assoc, arith}
+use Rattle.std.specs.List.{list_all}
 use Rattle.std.proofs.lemmas.Bool.{le-leb, eqb-true}
 use Rattle.kh_term.specs.declared.name.Name.{Name}
 use Rattle.kh_term.specs.declared.name.Name.TheVariants as name
 use Rattle.kh_term.specs.Name.{name_text}
 use Rattle.kh_text_defs.specs.Shown.{with_commas}
 use Rattle.kh_read.specs.Form.{is_plain_name}
-use Rattle.kh_read.specs.Reading.{◌>>=◌, Read, Stop, Cut, Fault, word_at, name_at, comma_at, names_at}
+use Rattle.kh_read.specs.Reading.{◌>>=◌, Fault, word_at, name_at, comma_at, names_at}
 use Rattle.kh_read.proofs.Steps.{bind_ok, ok_is}
-use Rattle.kh_read.proofs.Words.{IsWord, word_read}
+use Rattle.kh_read.proofs.Words.{word_read}
 
 pub name_read : (bytes : List ℕ) (x : Name × List ℕ) → name_at bytes ≡ Ok x → (is_plain_name x.0 ≡ true) × (bytes ≡ name_text x.0 ++ x.1)
 unfolding name_at
@@ -17,7 +17,7 @@ name_read bytes x e =
     let a = bind_ok (word_at bytes) (λ word. Ok (name.Atom word.0, word.1)) x e in
     let word = word_read bytes a.0 a.1 in
     subst (λ (y : Name × List ℕ). (is_plain_name y.0 ≡ true) × (bytes ≡ name_text y.0 ++ y.1)) (ok_is (name.Atom a.0.0, a.0.1) x a.2)
-        (rw (word.0.plain, le-leb _ _ word.0.short) refl, word.1)
+    (rw (word.0.plain, le-leb _ _ word.0.short) refl, word.1)
 
 -- the byte of a comma or of the bracket
 abbrev pub separator : Bool → ℕ
@@ -53,8 +53,8 @@ more_text : (bytes after rest : List ℕ) (first : Name) (names : List Name) (en
     → bytes ≡ with_commas (map name_text (first ∷ names)) ++ 93 ∷ end
 more_text bytes after rest first names end some named comma others =
     named ∙ ap (λ (r : List ℕ). name_text first ++ r) (comma ∙ ap (λ (r : List ℕ). 44 ∷ r) others)
-        ∙ sym (ap (λ (t : List ℕ). t ++ 93 ∷ end) (joined first names some)
-            ∙ append_assoc (name_text first) (44 ∷ with_commas (map name_text names)) (93 ∷ end))
+    ∙ sym (ap (λ (t : List ℕ). t ++ 93 ∷ end) (joined first names some)
+    ∙ append_assoc (name_text first) (44 ∷ with_commas (map name_text names)) (93 ∷ end))
 
 one_read : (room : ℕ) (bytes : List ℕ) (first : Name) (after : List ℕ) (more : Bool) (rest : List ℕ) (x : List Name × List ℕ)
     → is_plain_name first ≡ true → bytes ≡ name_text first ++ after → after ≡ separator more ∷ rest
@@ -65,10 +65,10 @@ one_read room bytes first after true rest x plain named comma others e =
     let a = bind_ok (names_at room rest) (λ others. Ok (first ∷ others.0, others.1)) x e in
     let more = others a.0 a.1 in
     subst (λ (y : List Name × List ℕ). AreRead (suc room) bytes y.0 y.1) (ok_is (first ∷ a.0.0, a.0.1) x a.2)
-        (record { some = omega arith; few = (let few = more.few in omega arith); plain = rw (plain, more.plain) refl; text = more_text bytes after rest first a.0.0 a.0.1 more.some named comma more.text })
+    (record { some = omega arith; few = (let few = more.few in omega arith); plain = rw (plain, more.plain) refl; text = more_text bytes after rest first a.0.0 a.0.1 more.some named comma more.text })
 one_read room bytes first after false rest x plain named comma others e =
     subst (λ (y : List Name × List ℕ). AreRead (suc room) bytes y.0 y.1) (ok_is (first ∷ [], rest) x e)
-        (record { some = omega arith; few = omega arith; plain = rw plain refl; text = named ∙ ap (λ (r : List ℕ). name_text first ++ r) comma })
+    (record { some = omega arith; few = omega arith; plain = rw plain refl; text = named ∙ ap (λ (r : List ℕ). name_text first ++ r) comma })
 
 pub names_read : (room : ℕ) (bytes : List ℕ) (x : List Name × List ℕ) → names_at room bytes ≡ Ok x → AreRead room bytes x.0 x.1
 unfolding names_at

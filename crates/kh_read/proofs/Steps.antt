@@ -1,6 +1,6 @@
 -- Steps of reading, one after another.
-use Rattle.std.proofs.Common.{◌≡◌, ℕ, Bool, true, false, cond, List, [], ◌∷◌, ◌++◌, Ok, Err, refl, sym, ap, ◌∙◌}
-use Rattle.kh_read.specs.Reading.{◌>>=◌, Read, Stop, Cut, Fault}
+use Rattle.std.proofs.Common.{◌≡◌, ℕ, Bool, true, false, cond, List, Ok, Err, refl}
+use Rattle.kh_read.specs.Reading.{◌>>=◌, Read, Stop}
 
 -- a test for a stop that didn't come
 pub passed : {A : Type 0} (test : Bool) (stop : Stop) (read : Read A) (x : A × List ℕ) → cond test (Err stop) read ≡ Ok x → (test ≡ false) × (read ≡ Ok x)

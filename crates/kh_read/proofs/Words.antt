@@ -1,19 +1,17 @@
 -- What a word is.
-use Rattle.std.proofs.Common.{◌≡◌, ℕ, zero, suc, ◌+◌, ◌<◌, ◌≤◌, Bool, true, false, not, ◌&&◌, leb, ltb, eqb, List, [], ◌∷◌, ◌++◌, length, take, drop, get_or, Ok, Err, refl, sym, subst, arith}
+use Rattle.std.proofs.Common.{◌≡◌, ℕ, zero, suc, ◌+◌, ◌<◌, ◌≤◌, true, not, List, [], ◌∷◌, ◌++◌, length, take, Ok, refl, subst, arith}
 use Rattle.std.specs.Char.{is_ascii_lowercase}
 use Rattle.std.specs.List.{prefix_len, list_all}
 use Rattle.std.specs.Str.{IsAscii}
-use Rattle.std.proofs.lemmas.Bool.{le-leb, ltb-false, not-false}
+use Rattle.std.proofs.lemmas.Bool.{le-leb, not-false}
 use Rattle.std.proofs.lemmas.Bool.Decides.{nat_tests}
 use Rattle.std.proofs.lemmas.Str.{IsUtf8-from_ascii, is_utf8-from_IsUtf8}
-use Rattle.std.proofs.lemmas.List.Folds.{length-prefix_len}
-use Rattle.std.proofs.lemmas.List.{take-append-drop}
 use Rattle.kh_term.specs.Text.{is_atom_text}
 use Rattle.kh_text_defs.specs.Atoms.{is_word_byte, is_plain_word, is_reserved, is_plain}
-use Rattle.kh_read.specs.Reading.{Read, Stop, Cut, Fault, word_at}
-use Rattle.kh_read.proofs.Fronts.{front_passes}
+use Rattle.kh_read.specs.Reading.{Fault, front_at, word_at}
+use Rattle.kh_read.proofs.Fronts.{front_passes, front_read}
 use Rattle.kh_read.proofs.Digits.{both}
-use Rattle.kh_read.proofs.Steps.{passed, ok_is}
+use Rattle.kh_read.proofs.Steps.{passed, bind_ok, ok_is}
 
 word_byte_below : (byte : ℕ) → is_word_byte byte ≡ true → byte < 128
 word_byte_below byte h = grind (arith, nat_tests)
@@ -28,13 +26,6 @@ word_ascii (byte ∷ text) h (suc i) = word_ascii text (both (is_word_byte byte)
 pub word_is_atom_text : (text : List ℕ) → list_all is_word_byte text ≡ true → length text ≤ 255 → is_atom_text text ≡ true
 word_is_atom_text text h few =
     rw (le-leb _ _ few, is_utf8-from_IsUtf8 text (IsUtf8-from_ascii text (word_ascii text h))) refl
-
--- the word at the front of bytes
-pub front_word : (bytes : List ℕ) → prefix_len is_word_byte bytes ≤ 255
-    → is_atom_text (take (prefix_len is_word_byte bytes) bytes) ≡ true
-front_word bytes few =
-    word_is_atom_text (take (prefix_len is_word_byte bytes) bytes) (front_passes is_word_byte bytes)
-        (let len = length-prefix_len is_word_byte bytes in omega arith)
 
 -- what `word_at` reads
 pub record IsWord (text : List ℕ) : Type 0 where
@@ -56,16 +47,11 @@ pub word_read : (bytes : List ℕ) (x : List ℕ × List ℕ) → word_at bytes 
 unfolding word_at
 word_read [] x e = absurd cc
 word_read (first ∷ others) x e =
-    let len = prefix_len is_word_byte (first ∷ others) in
-    let text = take len (first ∷ others) in
     let a = passed (not (is_ascii_lowercase first)) Fault _ x e in
-    let b = passed (ltb 255 len) Fault _ x a.1 in
-    let c = passed (eqb len (length (first ∷ others))) Cut _ x b.1 in
-    let d = passed (is_reserved text) Fault (Ok (text, drop len (first ∷ others))) x c.1 in
-    let is = ok_is (text, drop len (first ∷ others)) x d.1 in
+    let b = bind_ok (front_at is_word_byte 255 (first ∷ others)) _ x a.1 in
+    let c = passed (is_reserved b.0.0) Fault (Ok b.0) x b.2 in
+    let front = front_read is_word_byte 255 (first ∷ others) b.0 b.1 in
     let small : is_ascii_lowercase first ≡ true = not-false (is_ascii_lowercase first) a.0 in
-    let plain : is_plain text ≡ true = rw (plain_front first others small, d.0) refl in
-    let short : length text ≤ 255 =
-        (let few = ltb-false 255 len b.0 in let is_len = length-prefix_len is_word_byte (first ∷ others) in omega arith) in
-    subst (λ (y : List ℕ × List ℕ). IsWord y.0 × (first ∷ others ≡ y.0 ++ y.1)) is
-        (record { plain = plain; short = short }, sym (take-append-drop len (first ∷ others)))
+    let word : is_plain_word b.0.0 ≡ true = rw front.is (plain_front first others small) in
+    subst (λ (y : List ℕ × List ℕ). IsWord y.0 × (first ∷ others ≡ y.0 ++ y.1)) (ok_is b.0 x c.1)
+    (record { plain = rw (word, c.0) refl; short = front.few }, front.parts)

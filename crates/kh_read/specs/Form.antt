@@ -1,5 +1,5 @@
 -- The grammar of forms.
-use Rattle.std.specs.Prelude.{◌≡◌, ◌≢◌, ℕ, Bool, true, false, ◌&&◌, nat_le, codes, List, [], ◌∷◌, ◌++◌, length, map, IsTrue, ℤ, pos, neg_ℤ, ◌⊎◌}
+use Rattle.std.specs.Prelude.{◌≡◌, ◌≢◌, ℕ, Bool, false, ◌&&◌, nat_le, codes, List, [], ◌∷◌, ◌++◌, length, map, IsTrue, ℤ, pos, neg_ℤ, ◌⊎◌}
 use Rattle.std.specs.List.{list_all}
 use Rattle.std.specs.Str.{all_ascii_digits}
 use Rattle.std.specs.Str.Parse.{digits_value}

@@ -1,5 +1,5 @@
 -- What stands at the front of bytes, from left to right.
-use Rattle.std.specs.Prelude.{◌≡◌, ℕ, zero, suc, Bool, true, false, ◌+◌, ◌==◌, nat_lt, not, codes, ℤ, pos, neg_ℤ, List, [], ◌∷◌, length, take, drop, Result, Ok, Err, if◌then◌else◌}
+use Rattle.std.specs.Prelude.{◌≡◌, ◌≢◌, ◌<◌, ◌≤◌, ◌++◌, Option, Some, None, ℕ, zero, suc, Bool, true, false, ◌==◌, nat_lt, not, codes, ℤ, pos, neg_ℤ, List, [], ◌∷◌, length, take, drop, Result, Ok, Err, if◌then◌else◌}
 use Rattle.std.specs.Char.{is_ascii_digit, is_ascii_lowercase}
 use Rattle.std.specs.List.{prefix_len}
 use Rattle.std.specs.Str.Parse.{starts_with_minus, digits_value}
@@ -31,17 +31,24 @@ literal_at [] bytes = Ok bytes
 literal_at (wanted ∷ others) [] = Err Cut
 literal_at (wanted ∷ others) (byte ∷ bytes) = if byte == wanted then literal_at others bytes else Err Fault
 
--- A plain atom of at most 255 bytes, and a byte behind it. The 256th byte of a word is a fault before its end is known.
+-- a front of this length and what is behind it: a fault where it is longer than allowed, cut where nothing is behind it
+abbrev pub split_front : ℕ → ℕ → List ℕ → Read (List ℕ)
+split_front len most bytes =
+    if nat_lt most len then Err Fault
+    else if len == length bytes then Err Cut
+    else Ok (take len bytes, drop len bytes)
+
+-- The longest front that passes a test, of at most so many bytes, with a byte behind it. One byte more than allowed is a
+-- fault before the front has ended.
+abbrev pub front_at : (ℕ → Bool) → ℕ → List ℕ → Read (List ℕ)
+front_at test most bytes = split_front (prefix_len test bytes) most bytes
+
+-- a plain atom of at most 255 bytes
 unfoldable pub word_at : List ℕ → Read (List ℕ)
 word_at [] = Err Cut
 word_at (first ∷ others) =
-    let bytes = first ∷ others in
-    let len = prefix_len is_word_byte bytes in
     if not (is_ascii_lowercase first) then Err Fault
-    else if nat_lt 255 len then Err Fault
-    else if len == length bytes then Err Cut
-    else if is_reserved (take len bytes) then Err Fault
-    else Ok (take len bytes, drop len bytes)
+    else (front_at is_word_byte 255 (first ∷ others) >>= λ word. if is_reserved word.0 then Err Fault else Ok word)
 
 -- the atom of a word
 unfoldable pub name_at : List ℕ → Read Name
@@ -60,14 +67,9 @@ names_at (suc room) bytes =
     if comma.0 then (names_at room comma.1 >>= λ others. Ok (first.0 ∷ others.0, others.1))
     else Ok (first.0 ∷ [], comma.1)
 
--- The text of 1 to 18 digits, and a byte behind it. The 19th digit is a fault.
+-- 1 to 18 digits
 unfoldable pub digits_at : List ℕ → Read (List ℕ)
-digits_at bytes =
-    let count = prefix_len is_ascii_digit bytes in
-    if nat_lt 18 count then Err Fault
-    else if count == length bytes then Err Cut
-    else if count == 0 then Err Fault
-    else Ok (take count bytes, drop count bytes)
+digits_at bytes = front_at is_ascii_digit 18 bytes >>= λ digits. if length digits.0 == 0 then Err Fault else Ok digits
 
 -- an integer: digits, perhaps behind a minus sign
 unfoldable pub integer_at : List ℕ → Read ℤ
@@ -104,3 +106,18 @@ Fails errors.Syntax read = read ≡ Err Fault
 abbrev pub Gives : {X Y : Type 0} → (X → Y) → Result X ReadError → Result Y Stop → Type 0
 Gives view (Ok x) read = read ≡ Ok (view x)
 Gives view (Err e) read = Fails e read
+
+-- What reading from a place on gives: nothing exactly at the end; a form with the place behind it; or why there is none.
+abbrev pub ReadsForm : List ℕ → ℕ → Result (Option (Form × ℕ)) ReadError → Type 0
+ReadsForm bytes at (Ok None) = at ≡ length bytes
+ReadsForm bytes at (Ok (Some x)) = (form_at (drop at bytes) ≡ Ok (x.0, drop x.1 bytes)) × (at < x.1) × (x.1 ≤ length bytes)
+ReadsForm bytes at (Err e) = (at < length bytes) × Fails e (form_at (drop at bytes))
+
+-- what was read, with more bytes behind it
+abbrev pub extended : {A : Type 0} → List ℕ → Read A → Read A
+extended more (Ok x) = Ok (x.0, x.1 ++ more)
+extended more (Err stop) = Err stop
+
+-- What isn't cut short stays as it is with more bytes behind it.
+abbrev pub Grows : {A : Type 0} → (List ℕ → Read A) → Type 0
+Grows f = (bytes more : List ℕ) → f bytes ≢ Err Cut → f (bytes ++ more) ≡ extended more (f bytes)

@@ -1,11 +1,10 @@
-use kh_term::Name;
-use sqlite_items::Items;
+use kh_term::Path;
 
 /// A form of a script.
-#[derive(Debug, Drop)]
+#[derive(Drop)]
 pub enum Form {
     /// Set the data of the node at a path.
-    Put(Items<Name>, i128),
+    Put(Path, i128),
     /// Give the data of the node at a path.
-    Get(Items<Name>),
+    Get(Path),
 }

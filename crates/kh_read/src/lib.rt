@@ -5,7 +5,9 @@ mod error;
 mod form;
 mod number;
 mod path;
+mod read;
 mod scan;
 
 pub use error::ReadError;
 pub use form::Form;
+pub use read::{later_bytes_change_nothing, read_form};

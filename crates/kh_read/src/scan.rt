@@ -1,11 +1,11 @@
 //! The parts of a form, each read off the front of bytes.
-ghost use Rattle.std.specs.Prelude.{◌≡◌, IfOk, IsTrue};
+ghost use Rattle.std.specs.Prelude.{◌≡◌, ◌≤◌, length, IfOk, IsTrue};
 ghost use Rattle.std.specs.List.{prefix_len};
 ghost use Rattle.std.specs.Char.{is_ascii_digit};
 ghost use Rattle.kh_term.specs.Text.{is_atom_text};
 ghost use Rattle.kh_text_defs.specs.Atoms.{is_word_byte};
 ghost use Rattle.kh_read.specs.Form.{are_digits};
-ghost use Rattle.kh_read.specs.Reading.{Gives, literal_at, word_at, digits_at};
+ghost use Rattle.kh_read.specs.Reading.{Gives, literal_at, split_front, word_at, digits_at};
 
 use crate::error::ReadError;
 use kh_text_defs::{is_reserved, is_word_byte};
@@ -40,7 +40,24 @@ fn word_len(bytes: &[u8]) -> usize
 fn digits_len(bytes: &[u8]) -> usize
     ensures { result ≡ prefix_len is_ascii_digit bytes.now }
 {
-    bytes.iter().take_while(|byte| byte.is_ascii_digit()).count()
+    bytes
+        .iter()
+        .take_while(|byte| byte.is_ascii_digit())
+        .count()
+}
+
+// Splits a front off, which is at most so long and has a byte behind it.
+fn split_front(bytes: &[u8], len: usize, most: usize) -> Result<(&[u8], &[u8]), ReadError>
+    requires { len ≤ length bytes.now }
+    ensures { Gives (λ x. (x.0.now, x.1.now)) result (split_front len most bytes.now) }
+{
+    if len > most {
+        return Err(ReadError::Syntax);
+    }
+    if len == bytes.len() {
+        return Err(ReadError::Incomplete);
+    }
+    Ok(bytes.split_at(len))
 }
 
 /// Reads a plain atom of at most 255 bytes, behind which a byte stands, and gives its text.
@@ -57,14 +74,7 @@ pub fn word(bytes: &[u8]) -> Result<(&[u8], &[u8]), ReadError>
             }
         }
     }
-    let len = word_len(bytes);
-    if len > 255 {
-        return Err(ReadError::Syntax);
-    }
-    if len == bytes.len() {
-        return Err(ReadError::Incomplete);
-    }
-    let (text, rest) = bytes.split_at(len);
+    let (text, rest) = split_front(bytes, word_len(bytes), 255)?;
     if is_reserved(text) {
         return Err(ReadError::Syntax);
     }
@@ -77,15 +87,9 @@ pub fn digits(bytes: &[u8]) -> Result<(&[u8], &[u8]), ReadError>
     ensures exact { Gives (λ x. (x.0.now, x.1.now)) result (digits_at bytes.now) }
     ensures text { IfOk result (λ x. IsTrue (are_digits x.0.now)) }
 {
-    let count = digits_len(bytes);
-    if count > 18 {
+    let (text, rest) = split_front(bytes, digits_len(bytes), 18)?;
+    if text.is_empty() {
         return Err(ReadError::Syntax);
     }
-    if count == bytes.len() {
-        return Err(ReadError::Incomplete);
-    }
-    if count == 0 {
-        return Err(ReadError::Syntax);
-    }
-    Ok(bytes.split_at(count))
+    Ok((text, rest))
 }

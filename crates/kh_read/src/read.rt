@@ -1,0 +1,84 @@
+//! Whole forms.
+ghost use Rattle.std.specs.Prelude.{◌≡◌, ◌≤◌, length, IfOk, IfSome, slice_range};
+ghost use Rattle.kh_read.specs.Form.{IsForm};
+ghost use Rattle.kh_read.specs.Reading.{Gives, ReadsForm, names_at, put_at, get_at, by_keyword, form_at, Grows};
+
+use crate::error::ReadError;
+use crate::form::Form;
+use crate::number::integer;
+use crate::path::names;
+use crate::scan::literal;
+use kh_term::Path;
+use std::alloc::Global;
+
+// Reads the names of a path and the bracket behind them.
+fn path(alloc: Global, bytes: &[u8]) -> Result<(Path, &[u8]), ReadError>
+    ensures { Gives (λ x. (x.0, x.1.now)) result (names_at 32 bytes.now) }
+{
+    let (names, rest) = names(alloc, bytes)?;
+    match Path::new(names) {
+        Some(path) => Ok((path, rest)),
+        None => unreachable!(),
+    }
+}
+
+#[tactic(auto, unfolding(crate::specs::Reading::put_at))]
+fn put(alloc: Global, bytes: &[u8]) -> Result<(Form, &[u8]), ReadError>
+    ensures { Gives (λ x. (x.0, x.1.now)) result (put_at bytes.now) }
+{
+    let rest = literal(bytes, b"put,[")?;
+    let (path, rest) = path(alloc, rest)?;
+    let rest = literal(rest, b",")?;
+    let (number, rest) = integer(rest)?;
+    let rest = literal(rest, b"}.")?;
+    Ok((Form::Put(path, number), rest))
+}
+
+#[tactic(auto, unfolding(crate::specs::Reading::get_at))]
+fn get(alloc: Global, bytes: &[u8]) -> Result<(Form, &[u8]), ReadError>
+    ensures { Gives (λ x. (x.0, x.1.now)) result (get_at bytes.now) }
+{
+    let rest = literal(bytes, b"get,[")?;
+    let (path, rest) = path(alloc, rest)?;
+    let rest = literal(rest, b"}.")?;
+    Ok((Form::Get(path), rest))
+}
+
+// Reads the form behind its first brace.
+fn behind_brace(alloc: Global, bytes: &[u8]) -> Result<(Form, &[u8]), ReadError>
+    ensures { Gives (λ x. (x.0, x.1.now)) result (by_keyword bytes.now) }
+{
+    match bytes {
+        [] => Err(ReadError::Incomplete),
+        [b'p', ..] => put(alloc, bytes),
+        [b'g', ..] => get(alloc, bytes),
+        [_, ..] => Err(ReadError::Syntax),
+    }
+}
+
+#[tactic(auto, unfolding(crate::specs::Reading::form_at))]
+fn form(alloc: Global, bytes: &[u8]) -> Result<(Form, &[u8]), ReadError>
+    ensures { Gives (λ x. (x.0, x.1.now)) result (form_at bytes.now) }
+{
+    let rest = literal(bytes, b"{")?;
+    behind_brace(alloc, rest)
+}
+
+/// Reads the form that begins at a place, and gives it with the place behind its dot; `None` at the end of the bytes.
+pub fn read_form(alloc: Global, bytes: &[u8], at: usize) -> Result<Option<(Form, usize)>, ReadError>
+    requires { at ≤ length bytes.now }
+    ensures exact { ReadsForm bytes.now at result }
+    ensures found { IfOk result (λ read. IfSome read (λ x. IsForm (slice_range bytes.now at x.1) x.0)) }
+{
+    let (_, left) = bytes.split_at(at);
+    if left.is_empty() {
+        return Ok(None);
+    }
+    let (form, rest) = form(alloc, left)?;
+    Ok(Some((form, bytes.len() - rest.len())))
+}
+
+/// Bytes that come later change no form that was read, and mend no fault.
+pub fn later_bytes_change_nothing()
+    ensures { Grows form_at }
+{}
