@@ -2,7 +2,8 @@
 use Rattle.std.specs.Prelude.{ℕ, Bool, ◌&&◌, not, codes, nat_le, List, length}
 use Rattle.std.specs.declared.cmp.Ordering.{Ordering}
 use Rattle.std.specs.Ordering.{nat_cmp, on, then_cmp}
-use Rattle.std.specs.Cmp.Lexicographic.{slice_cmp}
+use Rattle.std.specs.Cmp.{IsTotalOrder, then_total, on_total, nat_cmp_total}
+use Rattle.std.specs.Cmp.Lexicographic.{slice_cmp, nat_list_cmp_total, lists_total}
 use Rattle.std.specs.List.{list_all}
 use Rattle.std.specs.Str.{bytes_eq}
 use Rattle.kh_term.specs.declared.name.Name.{Name}
@@ -22,9 +23,17 @@ name_text (name.Bin bytes) = bytes
 abbrev pub name_cmp : Name → Name → Ordering
 name_cmp = then_cmp (on name_rank nat_cmp) (on name_text (slice_cmp nat_cmp))
 
+-- the order of names is a total one
+pub name_total : IsTotalOrder name_cmp
+name_total = then_total (on_total name_rank nat_cmp_total) (on_total name_text nat_list_cmp_total)
+
 -- name by name, a prefix first
 abbrev pub path_cmp : List Name → List Name → Ordering
 path_cmp = slice_cmp name_cmp
+
+-- so is that of paths
+pub path_total : IsTotalOrder path_cmp
+path_total = lists_total name_total
 
 -- 1 to 255 bytes
 abbrev pub has_name_length : List ℕ → Bool

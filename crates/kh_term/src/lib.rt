@@ -5,11 +5,14 @@ mod bytes;
 mod make;
 mod memory;
 mod name;
+mod path;
 mod term;
 mod tree;
 
 pub use bytes::{Atom, Bytes};
+pub use make::{atom, bin, int, list, map_of_one, nil, path_term, term_of_name, tuple};
 pub use memory::NoMemory;
 pub use name::{Name, Origin};
+pub use path::Path;
 pub use term::{Pairs, Term, Terms};
 pub use tree::{TermTree, TreePairs, Trees};
