@@ -8,6 +8,8 @@ mod atom;
 mod binary;
 mod node;
 mod pieces;
+#[cfg(test)]
+mod tests;
 
 use crate::node::push_node;
 use crate::pieces::push_text;
