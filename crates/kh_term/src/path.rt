@@ -1,4 +1,4 @@
-ghost use Rattle.std.specs.Prelude.{◌≡◌, ◌↔◌, ◌≤◌, IsTrue, IsSome, IfSome, IfOk, Some, List, length, refl};
+ghost use Rattle.std.specs.Prelude.{◌≡◌, ◌↔◌, ◌≤◌, IsTrue, IsSome, IfSome, IfOk, Some, List, length, take, refl};
 ghost use Rattle.std.specs.Ordering.{eq_by_cmp};
 ghost use Rattle.std.specs.Cmp.{partial_equiv_from_equiv, eq_by_cmp_equiv, po};
 ghost use Rattle.std.specs.List.{list_all};
@@ -63,6 +63,16 @@ impl Path {
         ensures fits { IsTrue (is_path self.now) }
     {
         self.names.as_slice()
+    }
+
+    /// The path of the first so many names.
+    pub fn front(&self, alloc: Global, len: usize) -> Result<Path, NoMemory>
+        requires { len ≤ length self.now }
+        ensures { IfOk result (λ path. path ≡ take len self.now) }
+    {
+        let (front, _) = self.names.as_slice().split_at(len);
+        let names = copy_names(alloc, front)?;
+        Ok(Path { names })
     }
 
     pub fn copy(&self, alloc: Global) -> Result<Path, NoMemory>

@@ -1,0 +1,6 @@
+//! The store: a script of commands in, a reply for each out.
+#![tactic(auto)]
+
+mod tree;
+
+fn main() {}
