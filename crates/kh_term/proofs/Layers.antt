@@ -1,5 +1,6 @@
 -- What each definition over terms says of each variant.
-use Rattle.std.proofs.Common.{◌≡◌, ℕ, suc, ◌+◌, ◌/◌, max, ◌&&◌, nat_le, if◌then◌else◌, List, [], ◌∷◌, ◌++◌, length, map, sum, refl, ap, sym, ◌∙◌, ℤ}
+use Rattle.std.proofs.lemmas.List.Sums.{sum-map, sum_by-drop_more}
+use Rattle.std.proofs.Common.{◌<◌, drop, get_or, ◌≡◌, ℕ, suc, ◌+◌, ◌/◌, max, ◌&&◌, nat_le, if◌then◌else◌, List, [], ◌∷◌, ◌++◌, length, map, sum, refl, ap, sym, ◌∙◌, ℤ}
 use Rattle.std.specs.List.{flat_map}
 use Rattle.std.specs.Int.{to_be_bytes, w32}
 use Rattle.kh_term.specs.declared.name.Origin.{Origin}
@@ -201,3 +202,13 @@ pub packed-Closure : (origin : Origin) (env : List TermTree) → packed_of (tree
 packed-Closure origin env =
     ap packed_of (sym (rolls-Closure origin env)) ∙ (fold-roll-TermTree (List ℕ) packed_step (layer.Closure origin env)
     ∙ (λ i. 8 ∷ (short_text origin.module ++ (short_text origin.name ++ (origin.arity ∷ length_beside packed_of env i ∷ pieces packed_of (λ p. p) env i)))))
+
+pub sizes-drop : (ts : List TermTree) (i : ℕ) (d : TermTree) → i < length ts → sizes_of (drop i ts) ≡ size_of (get_or ts i d) + sizes_of (drop (i + 1) ts)
+sizes-drop ts i d h = sum-map size_of (drop i ts) ∙ (sum_by-drop_more size_of ts i d h ∙ ap (λ n. size_of (get_or ts i d) + n) (sym (sum-map size_of (drop (i + 1) ts))))
+
+pub pair_sizes-drop : (ps : List (TermTree × TermTree)) (i : ℕ) (d : TermTree × TermTree) → i < length ps → pair_sizes_of (drop i ps) ≡ size_of (get_or ps i d).0 + size_of (get_or ps i d).1 + pair_sizes_of (drop (i + 1) ps)
+pair_sizes-drop ps i d h =
+    let f : (TermTree × TermTree) → ℕ = λ p. size_of p.0 + size_of p.1 in
+    sum-map f (drop i ps) ∙ (sum_by-drop_more f ps i d h ∙ ap (λ n. f (get_or ps i d) + n) (sym (sum-map f (drop (i + 1) ps))))
+
+pub ruleset sizes = (size-Int, size-Atom, size-Bin, size-Nil, size-List, size-Tuple, size-Map, size-Closure, sizes-drop, pair_sizes-drop)

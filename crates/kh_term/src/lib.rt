@@ -2,10 +2,12 @@
 #![tactic(auto)]
 
 mod bytes;
+mod copying;
 mod make;
 mod memory;
 mod name;
 mod path;
+mod sizes;
 mod term;
 mod tree;
 
@@ -14,5 +16,6 @@ pub use make::{atom, bin, int, list, map_of_one, nil, path_term, term_of_name, t
 pub use memory::NoMemory;
 pub use name::{Name, Origin};
 pub use path::Path;
+pub use sizes::size;
 pub use term::{Pairs, Term, Terms};
 pub use tree::{TermTree, TreePairs, Trees};
