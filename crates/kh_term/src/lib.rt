@@ -3,6 +3,7 @@
 
 mod bytes;
 mod copying;
+mod depths;
 mod make;
 mod memory;
 mod name;
@@ -10,8 +11,10 @@ mod path;
 mod sizes;
 mod term;
 mod tree;
+mod widths;
 
 pub use bytes::{Atom, Bytes};
+pub use depths::depth;
 pub use make::{atom, bin, int, list, map_of_one, nil, path_term, term_of_name, tuple};
 pub use memory::NoMemory;
 pub use name::{Name, Origin};
@@ -19,3 +22,4 @@ pub use path::Path;
 pub use sizes::size;
 pub use term::{Pairs, Term, Terms};
 pub use tree::{TermTree, TreePairs, Trees};
+pub use widths::widest;
