@@ -1,11 +1,12 @@
 -- What each definition over terms says of each variant.
-use Rattle.std.proofs.Common.{◌≡◌, ℕ, suc, ◌+◌, ◌/◌, max, ◌&&◌, nat_le, if◌then◌else◌, List, [], ◌∷◌, ◌++◌, length, map, sum, refl, ap, sym, ◌∙◌, ℤ}
+use Rattle.std.proofs.lemmas.List.Sums.{sum-map, sum_by-drop_more}
+use Rattle.std.proofs.Common.{false, arith, add-one, drop-cons, ◌<◌, drop, get_or, ◌≡◌, ℕ, suc, ◌+◌, ◌/◌, max, ◌&&◌, nat_le, if◌then◌else◌, List, [], ◌∷◌, ◌++◌, length, map, sum, refl, ap, sym, ◌∙◌, ℤ}
 use Rattle.std.specs.List.{flat_map}
 use Rattle.std.specs.Int.{to_be_bytes, w32}
 use Rattle.kh_term.specs.declared.name.Origin.{Origin}
 use Rattle.kh_term.specs.declared.tree.TermTree.{TermTree, out-TermTree}
 use Rattle.kh_term.specs.declared.tree.TermTree.TheVariants as tree
-use Rattle.kh_term.specs.declared.tree.TermTree.TheVariants.{rolls-Int, rolls-Atom, rolls-Bin, rolls-Nil, rolls-List, rolls-Tuple, rolls-Map, rolls-Closure}
+use Rattle.kh_term.specs.declared.tree.TermTree.TheVariants.{outs-Int, outs-Atom, outs-Bin, outs-Nil, outs-List, outs-Tuple, outs-Map, outs-Closure, rolls-Int, rolls-Atom, rolls-Bin, rolls-Nil, rolls-List, rolls-Tuple, rolls-Map, rolls-Closure}
 use Rattle.kh_term.specs.declared.tree.TermTree.TheOpen.{TermTree-F}
 use Rattle.kh_term.specs.declared.tree.TermTree.TheOpen as layer
 use Rattle.kh_term.specs.declared.tree.TermTree.TheFolds.{fold-roll-TermTree, para-roll-TermTree}
@@ -201,3 +202,51 @@ pub packed-Closure : (origin : Origin) (env : List TermTree) → packed_of (tree
 packed-Closure origin env =
     ap packed_of (sym (rolls-Closure origin env)) ∙ (fold-roll-TermTree (List ℕ) packed_step (layer.Closure origin env)
     ∙ (λ i. 8 ∷ (short_text origin.module ++ (short_text origin.name ++ (origin.arity ∷ length_beside packed_of env i ∷ pieces packed_of (λ p. p) env i)))))
+
+pub sizes-drop : (ts : List TermTree) (i : ℕ) (d : TermTree) → i < length ts → sizes_of (drop i ts) ≡ size_of (get_or ts i d) + sizes_of (drop (i + 1) ts)
+sizes-drop ts i d h = sum-map size_of (drop i ts) ∙ (sum_by-drop_more size_of ts i d h ∙ ap (λ n. size_of (get_or ts i d) + n) (sym (sum-map size_of (drop (i + 1) ts))))
+
+pub pair_sizes-drop : (ps : List (TermTree × TermTree)) (i : ℕ) (d : TermTree × TermTree) → i < length ps → pair_sizes_of (drop i ps) ≡ size_of (get_or ps i d).0 + size_of (get_or ps i d).1 + pair_sizes_of (drop (i + 1) ps)
+pair_sizes-drop ps i d h =
+    let f : (TermTree × TermTree) → ℕ = λ p. size_of p.0 + size_of p.1 in
+    sum-map f (drop i ps) ∙ (sum_by-drop_more f ps i d h ∙ ap (λ n. f (get_or ps i d) + n) (sym (sum-map f (drop (i + 1) ps))))
+
+pub ruleset sizes = (size-Int, size-Atom, size-Bin, size-Nil, size-List, size-Tuple, size-Map, size-Closure, sizes-drop, pair_sizes-drop)
+
+pub greatest-drop : {A : Type 0} (f : A → ℕ) (xs : List A) (i : ℕ) (d : A) → i < length xs → greatest (map f (drop i xs)) ≡ max (f (get_or xs i d)) (greatest (map f (drop (i + 1) xs)))
+greatest-drop f xs i d h = rw (add-one, drop-cons xs i d h)
+
+pub depths-drop : (ts : List TermTree) (i : ℕ) (d : TermTree) → i < length ts → greatest (map depth_of (drop i ts)) ≡ max (depth_of (get_or ts i d)) (greatest (map depth_of (drop (i + 1) ts)))
+depths-drop = greatest-drop depth_of
+
+pub pair_depths-drop : (ps : List (TermTree × TermTree)) (i : ℕ) (d : TermTree × TermTree) → i < length ps → greatest (map (λ p. max (depth_of p.0) (depth_of p.1)) (drop i ps)) ≡ max (max (depth_of (get_or ps i d).0) (depth_of (get_or ps i d).1)) (greatest (map (λ p. max (depth_of p.0) (depth_of p.1)) (drop (i + 1) ps)))
+pair_depths-drop = greatest-drop (λ p. max (depth_of p.0) (depth_of p.1))
+
+pub widths-drop : (ts : List TermTree) (i : ℕ) (d : TermTree) → i < length ts → greatest (map width_of (drop i ts)) ≡ max (width_of (get_or ts i d)) (greatest (map width_of (drop (i + 1) ts)))
+widths-drop = greatest-drop width_of
+
+pub pair_widths-drop : (ps : List (TermTree × TermTree)) (i : ℕ) (d : TermTree × TermTree) → i < length ps → greatest (map (λ p. max (width_of p.0) (width_of p.1)) (drop i ps)) ≡ max (max (width_of (get_or ps i d).0) (width_of (get_or ps i d).1)) (greatest (map (λ p. max (width_of p.0) (width_of p.1)) (drop (i + 1) ps)))
+pair_widths-drop = greatest-drop (λ p. max (width_of p.0) (width_of p.1))
+
+-- the parts of a term are less deep
+pub deep-Tuple : (t : TermTree) (parts qs : List TermTree) (m : ℕ) → t ≡ tree.Tuple parts → qs ≡ parts → depth_of t < m → greatest (map depth_of qs) < m
+deep-Tuple t parts qs m e k h = omega (arith, depth-Tuple parts, ap depth_of e, ap (λ ts. greatest (map depth_of ts)) k)
+
+pub deep-Closure : (t : TermTree) (origin : Origin) (parts qs : List TermTree) (m : ℕ) → t ≡ tree.Closure origin parts → qs ≡ parts → depth_of t < m → greatest (map depth_of qs) < m
+deep-Closure t origin parts qs m e k h = omega (arith, depth-Closure origin parts, ap depth_of e, ap (λ ts. greatest (map depth_of ts)) k)
+
+pub deep-List : (t : TermTree) (parts qs : List TermTree) (tail : TermTree) (m : ℕ) → t ≡ tree.List parts tail → qs ≡ parts → depth_of t < m → greatest (map depth_of qs) < m
+deep-List t parts qs tail m e k h = omega (arith, depth-List parts tail, ap depth_of e, ap (λ ts. greatest (map depth_of ts)) k)
+
+pub deep-tail : (t : TermTree) (parts : List TermTree) (tail u v : TermTree) (m : ℕ) → t ≡ tree.List parts tail → u ≡ tail → v ≡ tail → false ≡ is_nil (out-TermTree u) → depth_of t < m → depth_of v < m
+deep-tail t parts tail u v m e k l n h =
+    omega (arith, ap depth_of e, ap depth_of l, depth-List parts tail ∙ ap (λ b. 1 + max (greatest (map depth_of parts)) (if b then 0 else depth_of tail)) (ap (λ x. is_nil (out-TermTree x)) (sym k) ∙ sym n))
+
+pub deep-Map : (t : TermTree) (pairs qs : List (TermTree × TermTree)) (m : ℕ) → t ≡ tree.Map pairs → qs ≡ pairs → depth_of t < m → greatest (map (λ p. max (depth_of p.0) (depth_of p.1)) qs) < m
+deep-Map t pairs qs m e k h = omega (arith, depth-Map pairs, ap depth_of e, ap (λ ps. greatest (map (λ p. max (depth_of p.0) (depth_of p.1)) ps)) k)
+
+pub ruleset nils = (outs-Int, outs-Atom, outs-Bin, outs-Nil, outs-List, outs-Tuple, outs-Map, outs-Closure)
+
+pub ruleset depths = (nils, depth-Int, depth-Atom, depth-Bin, depth-Nil, depth-List, depth-Tuple, depth-Map, depth-Closure, depths-drop, pair_depths-drop)
+
+pub ruleset widths = (width-Int, width-Atom, width-Bin, width-Nil, width-List, width-Tuple, width-Map, width-Closure, widths-drop, pair_widths-drop)

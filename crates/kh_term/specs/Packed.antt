@@ -12,10 +12,14 @@ abbrev pub behind_sign : ℤ → ℕ
 behind_sign (pos n) = n
 behind_sign (negsuc n) = n
 
+-- the least number of bytes, 1 to 16, that has room for a sign and this number behind it
+abbrev pub least_len : ℕ → ℕ
+least_len n =
+    unwrap_or (find (λ len. nat_lt n (2 ^ (8 * len - 1))) (1 ∷ 2 ∷ 3 ∷ 4 ∷ 5 ∷ 6 ∷ 7 ∷ 8 ∷ 9 ∷ 10 ∷ 11 ∷ 12 ∷ 13 ∷ 14 ∷ 15 ∷ [])) 16
+
 -- the least number of bytes, 1 to 16, that holds an integer in two's complement
 abbrev pub integer_len : ℤ → ℕ
-integer_len z =
-    unwrap_or (find (λ n. nat_lt (behind_sign z) (2 ^ (8 * n - 1))) (1 ∷ 2 ∷ 3 ∷ 4 ∷ 5 ∷ 6 ∷ 7 ∷ 8 ∷ 9 ∷ 10 ∷ 11 ∷ 12 ∷ 13 ∷ 14 ∷ 15 ∷ [])) 16
+integer_len z = least_len (behind_sign z)
 
 -- an integer in two's complement, big-endian, in the fewest bytes
 abbrev pub integer_bytes : ℤ → List ℕ

@@ -2,17 +2,26 @@
 #![tactic(auto)]
 
 mod bytes;
+mod copying;
+mod depths;
 mod make;
 mod memory;
 mod name;
+mod packed_lens;
 mod path;
+mod sizes;
 mod term;
 mod tree;
+mod widths;
 
 pub use bytes::{Atom, Bytes};
+pub use depths::depth;
 pub use make::{atom, bin, int, list, map_of_one, nil, path_term, term_of_name, tuple};
 pub use memory::NoMemory;
 pub use name::{Name, Origin};
+pub use packed_lens::{integer_len, packed_len};
 pub use path::Path;
+pub use sizes::size;
 pub use term::{Pairs, Term, Terms};
 pub use tree::{TermTree, TreePairs, Trees};
+pub use widths::widest;

@@ -45,6 +45,20 @@ impl Name {
     }
 }
 
+impl Origin {
+    pub fn copy(&self, alloc: Global) -> Result<Origin, NoMemory>
+        ensures { IfOk result (λ origin. origin ≡ self.now) }
+    {
+        let module = self.module.copy(alloc)?;
+        let name = self.name.copy(alloc)?;
+        Ok(Origin {
+            module,
+            name,
+            arity: self.arity,
+        })
+    }
+}
+
 fn has_name_length(text: &[u8]) -> bool
     ensures { result ≡ has_name_length text.now }
 {
