@@ -1,3 +1,5 @@
 pub mod Tree
 pub mod Machine
+pub mod Output
 pub mod Session
+pub mod Line

@@ -1,0 +1,3 @@
+pub mod TakeBack
+pub mod Told
+pub mod Giving
