@@ -66,8 +66,7 @@ fn provide<T>(chunks: &mut Chunks<T>, index: usize, alloc: &Global) -> Result<()
 }
 
 // Gives each chunk back.
-fn free_chunks<T>(chunks: Chunks<T>, alloc: &Global) {
-    let mut chunks = chunks;
+fn free_chunks<T>(mut chunks: Chunks<T>, alloc: &Global) {
     while let Some(chunk) = chunks.pop() {
         chunk.free(alloc);
     }

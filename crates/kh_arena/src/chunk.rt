@@ -1,6 +1,6 @@
 // A block of memory with a fixed number of places, each of which holds an item or room for one.
-// `make`, `put`, `get`, `free` and `item_bytes` are proved by hand. An item that is written over, or whose
-// chunk is freed, is forgotten: an arena's items are `Copy`.
+// `make`, `put`, `get` and `free` alone touch the memory, and `item_bytes` its layout. An item that is written
+// over, or whose chunk is freed, is forgotten: an arena's items are `Copy`.
 ghost use Rattle.std.specs.Prelude.{◌≡◌, ◌*◌, ◌^◌, ◌<◌, List, length, Some, None, IfSome, IsSome, IsTrue, slice_set, slice_index_or};
 ghost use Rattle.std.specs.Coded.{coded_list, coded_option};
 ghost use Rattle.std.specs.declared.option.Option.{Option};

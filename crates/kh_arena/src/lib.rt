@@ -5,9 +5,10 @@
 //!
 //! # What is proved of its memory
 //!
-//! The chunks lie behind raw pointers, and only five small functions of `chunk.rt` touch those. A
-//! `Chunk` owns each of its places, with the item or the room that lies there, and the right to free
-//! its block once: `chunk_owns`, in `specs/Ownership.antt`. The rest follows from contracts.
+//! The chunks lie behind raw pointers, which only `make`, `put`, `get` and `free` of `chunk.rt`
+//! follow. A `Chunk` owns each of its places, with the item or the room that lies there, and the
+//! right to free its block, once: `chunk_owns`, in `specs/Ownership.antt`. So these contracts say
+//! which memory is touched.
 //!
 //! - A place is read only if it holds an item, which `Chunk::get` requires, and it holds one only
 //!   after `Chunk::put`. `Arena::get` requires a place below the length, so the item was pushed, and
