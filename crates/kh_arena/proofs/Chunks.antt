@@ -20,7 +20,7 @@ use denote.Struct.Struct.{Struct}
 use denote.Struct.Owning.{shape}
 use Rattle.std.proofs.mem.Param.{El, R}
 use Rattle.std.proofs.alloc.Calls.{Al, token}
-use Rattle.kh_arena.specs.Place.{places_own, block_right, chunk_owns}
+use Rattle.kh_arena.specs.Ownership.{places_own, block_right, chunk_owns}
 use Rattle.kh_arena.specs.contracts.chunk.Chunk as C
 use Rattle.kh_arena.proofs.Places.{sz}
 

@@ -20,7 +20,7 @@ use Rattle.std.specs.declared.option.Option.{Option}
 use Rattle.std.specs.contracts.marker.PhantomData as Phantom
 use Rattle.std.proofs.mem.Param.{El, R, el_x}
 use Rattle.std.proofs.alloc.Calls.{Al}
-use Rattle.kh_arena.specs.Place.{place_lends, places_lend}
+use Rattle.kh_arena.specs.Ownership.{place_lends, places_lend}
 use Rattle.kh_arena.specs.contracts.chunk.Chunk as C
 use Rattle.kh_arena.proofs.Places.{sz, Place}
 use Rattle.kh_arena.proofs.Chunks.{P, Cr, Fields}

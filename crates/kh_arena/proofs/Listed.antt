@@ -8,8 +8,9 @@ use Rattle.std.proofs.lemmas.Grind.{flat_map-append}
 use Rattle.std.specs.Prelude.{Some, None, IsSome, slice_get, All}
 use Rattle.std.specs.declared.option.Option.{Option}
 use Rattle.kh_arena.specs.declared.chunk.Chunk.{Chunk}
-use Rattle.kh_arena.specs.Place.{empty_places}
-use Rattle.kh_arena.specs.Listed.{chunk_items, first_items, places_of, IsArena, Extends}
+use Rattle.kh_arena.specs.Ownership.{empty_places}
+use Rattle.kh_arena.specs.declared.arena.TheConstants.{CHUNK_ITEMS}
+use Rattle.kh_arena.specs.Listed.{first_items, places_of, IsArena, Extends}
 
 module _ {X : Type 0} where
   -- n places hold at most n items
@@ -58,43 +59,43 @@ module _ {X : Type 0} where
 
 module _ {X A : Type 0} where
   abbrev Sized : List (Chunk X A) → Type 0
-  Sized = All (λ c. c.len ≡ chunk_items)
+  Sized = All (λ c. c.len ≡ CHUNK_ITEMS)
 
   others : (c : Chunk X A) (cs : List (Chunk X A)) → Sized (c ∷ cs) → Sized cs
   others c cs sized k d l = sized (suc k) d (omega arith)
 
-  first : (c : Chunk X A) (cs : List (Chunk X A)) → Sized (c ∷ cs) → length c.places ≡ chunk_items
+  first : (c : Chunk X A) (cs : List (Chunk X A)) → Sized (c ∷ cs) → length c.places ≡ CHUNK_ITEMS
   first c cs sized = sym c.whole ∙ sized 0 c (omega arith)
 
-  pub length-places_of : (cs : List (Chunk X A)) → Sized cs → length (places_of cs) ≡ length cs * chunk_items
+  pub length-places_of : (cs : List (Chunk X A)) → Sized cs → length (places_of cs) ≡ length cs * CHUNK_ITEMS
   length-places_of [] sized = refl
   length-places_of (c ∷ cs) sized = length-append c.places (places_of cs) ∙ omega (arith, first c cs sized, length-places_of cs (others c cs sized))
 
-  -- place j of chunk k is the place k * chunk_items + j of all
-  pub place_at : (cs : List (Chunk X A)) (k j i : ℕ) (d : Chunk X A) → Sized cs → k < length cs → j < chunk_items → k * chunk_items + j ≡ i
+  -- place j of chunk k is the place k * CHUNK_ITEMS + j of all
+  pub place_at : (cs : List (Chunk X A)) (k j i : ℕ) (d : Chunk X A) → Sized cs → k < length cs → j < CHUNK_ITEMS → k * CHUNK_ITEMS + j ≡ i
       → get_or (places_of cs) i None ≡ get_or (get_or cs k d).places j None
   place_at [] k j i d sized l m e = absurd (not-suc-le-zero l)
   place_at (c ∷ cs) zero j i d sized l m e =
       let same : i ≡ j = omega (arith, e) in
       get_or-append c.places (places_of cs) None i (omega (arith, first c cs sized)) ∙ ap (λ (n : ℕ). get_or c.places n None) same
   place_at (c ∷ cs) (suc k) j i d sized l m e =
-      get_or-append_right c.places (places_of cs) chunk_items i None (first c cs sized) (omega (arith, e))
-      ∙ place_at cs k j (i - chunk_items) d (others c cs sized) (le_of_suc-le-suc l) m (omega (arith, e))
+      get_or-append_right c.places (places_of cs) CHUNK_ITEMS i None (first c cs sized) (omega (arith, e))
+      ∙ place_at cs k j (i - CHUNK_ITEMS) d (others c cs sized) (le_of_suc-le-suc l) m (omega (arith, e))
 
   -- and a write to it is one to that
-  pub place_set : (cs : List (Chunk X A)) (k j i : ℕ) (d new : Chunk X A) (s : Option X) → Sized cs → k < length cs → j < chunk_items → k * chunk_items + j ≡ i
+  pub place_set : (cs : List (Chunk X A)) (k j i : ℕ) (d new : Chunk X A) (s : Option X) → Sized cs → k < length cs → j < CHUNK_ITEMS → k * CHUNK_ITEMS + j ≡ i
       → new.places ≡ set (get_or cs k d).places j s → places_of (set cs k new) ≡ set (places_of cs) i s
   place_set [] k j i d new s sized l m e is = absurd (not-suc-le-zero l)
   place_set (c ∷ cs) zero j i d new s sized l m e is =
       let same : j ≡ i = omega (arith, e) in
       ap (λ (ss : List (Option X)). ss ++ places_of cs) (is ∙ ap (λ (n : ℕ). set c.places n s) same) ∙ sym (set-append_left c.places (places_of cs) i s (omega (arith, first c cs sized)))
   place_set (c ∷ cs) (suc k) j i d new s sized l m e is =
-      ap (λ (ss : List (Option X)). c.places ++ ss) (place_set cs k j (i - chunk_items) d new s (others c cs sized) (le_of_suc-le-suc l) m (omega (arith, e)) is)
-      ∙ sym (set-append_right c.places (places_of cs) chunk_items i s (first c cs sized) (omega (arith, e)))
+      ap (λ (ss : List (Option X)). c.places ++ ss) (place_set cs k j (i - CHUNK_ITEMS) d new s (others c cs sized) (le_of_suc-le-suc l) m (omega (arith, e)) is)
+      ∙ sym (set-append_right c.places (places_of cs) CHUNK_ITEMS i s (first c cs sized) (omega (arith, e)))
 
   -- a chunk with as many places as it holds nothing in
-  pub Sized-empty : (c : Chunk X A) → c.places ≡ empty_places chunk_items → Sized (c ∷ [])
-  Sized-empty c empty zero d l = c.whole ∙ ap length empty ∙ length-replicate {A = Option X} chunk_items None
+  pub Sized-empty : (c : Chunk X A) → c.places ≡ empty_places CHUNK_ITEMS → Sized (c ∷ [])
+  Sized-empty c empty zero d l = c.whole ∙ ap length empty ∙ length-replicate {A = Option X} CHUNK_ITEMS None
   Sized-empty c empty (suc k) d l = absurd (not-suc-le-zero (le_of_suc-le-suc l))
 
   -- the first m items are an arena
@@ -105,7 +106,7 @@ module _ {X A : Type 0} where
     pub IsArena-take : IsArena m cs
     IsArena-take = record { full = ap length first_items-take ∙ length-take-le m xs l; sized = is.sized }
 
-  module _ (n k j i : ℕ) (cs : List (Chunk X A)) (xs : List X) (is : IsArena n cs) (view : first_items n (places_of cs) ≡ xs) (e : k * chunk_items + j ≡ i) (l : i < length xs) where
+  module _ (n k j i : ℕ) (cs : List (Chunk X A)) (xs : List X) (is : IsArena n cs) (view : first_items n (places_of cs) ≡ xs) (e : k * CHUNK_ITEMS + j ≡ i) (l : i < length xs) where
     within : i < n
     within = omega (arith, l, is.full, ap length view)
 
@@ -114,13 +115,13 @@ module _ {X A : Type 0} where
     chunk_within = omega (arith, e, within, places_enough n (places_of cs) is.full, length-places_of cs is.sized)
 
     -- and its place there holds it
-    pub place_holds : (c : Chunk X A) → j < chunk_items → c ≡ get_or cs k c → get_or c.places j None ≡ slice_get xs i
+    pub place_holds : (c : Chunk X A) → j < CHUNK_ITEMS → c ≡ get_or cs k c → get_or c.places j None ≡ slice_get xs i
     place_holds c m found =
         ap (λ (d : Chunk X A). get_or d.places j None) found ∙ sym (place_at cs k j i c is.sized chunk_within m e)
         ∙ item_at n (places_of cs) i is.full within ∙ ap (λ (ys : List X). slice_get ys i) view
 
   -- the place after the first n has its chunk, or is in the next
-  pub chunk_or_next : (n k j : ℕ) (cs : List (Chunk X A)) → IsArena n cs → k * chunk_items + j ≡ n → k ≤ length cs
+  pub chunk_or_next : (n k j : ℕ) (cs : List (Chunk X A)) → IsArena n cs → k * CHUNK_ITEMS + j ≡ n → k ≤ length cs
   chunk_or_next n k j cs is e = omega (arith, e, places_enough n (places_of cs) is.full, length-places_of cs is.sized)
 
   -- more chunks leave the list
@@ -134,10 +135,10 @@ module _ {X A : Type 0} where
   pub IsArena-extends : (n : ℕ) (cs ds : List (Chunk X A)) → IsArena n cs → Extends cs ds → IsArena n ds
   IsArena-extends n cs ds is to = record {
     full = ap length (first_items-extends n cs ds is to) ∙ is.full;
-    sized = subst Sized (sym to.last) (All-append (λ (c : Chunk X A). c.len ≡ chunk_items) cs to.more is.sized to.sized);
+    sized = subst Sized (sym to.last) (All-append (λ (c : Chunk X A). c.len ≡ CHUNK_ITEMS) cs to.more is.sized to.sized);
   }
 
-  module _ (n k j : ℕ) (cs : List (Chunk X A)) (old new : Chunk X A) (x : X) (is : IsArena n cs) (e : k * chunk_items + j ≡ n) (m : j < chunk_items) (l : k < length cs)
+  module _ (n k j : ℕ) (cs : List (Chunk X A)) (old new : Chunk X A) (x : X) (is : IsArena n cs) (e : k * CHUNK_ITEMS + j ≡ n) (m : j < CHUNK_ITEMS) (l : k < length cs)
       (found : old ≡ get_or cs k old) (written : new.places ≡ set old.places j (Some x)) where
     places_are : places_of (set cs k new) ≡ set (places_of cs) n (Some x)
     places_are = place_set cs k j n old new (Some x) is.sized l m e (written ∙ ap (λ (c : Chunk X A). set c.places j (Some x)) found)
@@ -152,7 +153,7 @@ module _ {X A : Type 0} where
     pub IsArena-put : IsArena (n + 1) (set cs k new)
     IsArena-put = record {
       full = ap length first_items-put ∙ length-append (first_items n (places_of cs)) (x ∷ []) ∙ omega (arith, is.full);
-      sized = All-set (λ (c : Chunk X A). c.len ≡ chunk_items) cs k new
+      sized = All-set (λ (c : Chunk X A). c.len ≡ CHUNK_ITEMS) cs k new
           (new.whole ∙ ap length written ∙ length-set old.places j (Some x) ∙ sym old.whole ∙ ap (λ (c : Chunk X A). c.len) found ∙ is.sized k old l) is.sized;
     }
 

@@ -16,11 +16,12 @@ use borrow.Table.OneValue.{part_in, part_out}
 use Rattle.std.specs.Prelude.{Some, None}
 use Rattle.std.specs.declared.option.Option.{Option}
 use Rattle.std.proofs.mem.Param.{El, R, el_x, elτ}
-use Rattle.kh_arena.specs.Place.{item_size, place_owns, places_own, empty_places}
+use Rattle.std.specs.Mem.{type_size}
+use Rattle.kh_arena.specs.Ownership.{place_owns, places_own, empty_places}
 
 module _ (E : El) where
   abbrev pub sz : ℕ
-  sz = item_size (R E)
+  sz = type_size (R E)
 
   abbrev pub Place : Type 0
   Place = Option (el_x E)

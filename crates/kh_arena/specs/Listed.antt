@@ -1,11 +1,8 @@
 -- The list that an arena's chunks hold.
 use Rattle.std.specs.Prelude.{◌≡◌, ℕ, List, ◌++◌, length, take, flat_map, filter_map, All}
 use Rattle.std.specs.declared.option.Option.{Option}
+use Rattle.kh_arena.specs.declared.arena.TheConstants.{CHUNK_ITEMS}
 use Rattle.kh_arena.specs.declared.chunk.Chunk.{Chunk}
-
--- the items of a chunk
-abbrev pub chunk_items : ℕ
-chunk_items = 4096
 
 -- the items that the first n places hold
 abbrev pub first_items : {X : Type 0} → ℕ → List (Option X) → List X
@@ -19,10 +16,10 @@ module _ {X A : Type 0} where
   -- the first n places hold items, and each chunk has its size
   pub record IsArena (n : ℕ) (cs : List (Chunk X A)) : Type 0 where
     pub full : length (first_items n (places_of cs)) ≡ n
-    pub sized : All (λ c. c.len ≡ chunk_items) cs
+    pub sized : All (λ c. c.len ≡ CHUNK_ITEMS) cs
 
   -- ds is cs with more chunks at its end
   pub record Extends (cs ds : List (Chunk X A)) : Type 0 where
     pub more : List (Chunk X A)
     pub last : ds ≡ cs ++ more
-    pub sized : All (λ c. c.len ≡ chunk_items) more
+    pub sized : All (λ c. c.len ≡ CHUNK_ITEMS) more

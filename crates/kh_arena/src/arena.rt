@@ -1,18 +1,20 @@
 // The arena: chunks of places, of which the first `len` hold the items.
 ghost use Rattle.std.specs.Prelude.{◌≡◌, ◌+◌, ◌-◌, ◌*◌, ◌^◌, ◌<◌, ◌≤◌, List, [], ◌∷◌, ◌++◌, length, take, slice_get, vec_len, IfOk, OnOk, OnErr, Some};
-ghost use Rattle.kh_arena.specs.Listed.{chunk_items, first_items, places_of, IsArena, Extends};
+ghost use Rattle.kh_arena.specs.Listed.{first_items, places_of, IsArena, Extends};
 
 use crate::chunk::Chunk;
 use crate::error::NoMemory;
 use std::alloc::Global;
 use std::marker::Model;
 
-// The items of a chunk.
+// The places of a chunk. No other line, in code or in a contract, states this number.
 const CHUNK_ITEMS: usize = 4096;
+
+type Chunks<T> = Vec<Chunk<T, Global>>;
 
 /// A list whose items stay where they are until the arena is dropped.
 pub struct Arena<T: Copy> {
-    chunks: Vec<Chunk<T, Global>, Global>,
+    chunks: Chunks<T>,
     len: u32,
     alloc: Global,
 }
@@ -27,15 +29,15 @@ impl<T: Copy> Model for Arena<T> {
 
 // The chunk of the item at `i`, and its place there.
 fn locate(i: u32) -> (usize, usize)
-    ensures at { result.0 * chunk_items + result.1 ≡ i }
-    ensures within { result.1 < chunk_items }
+    ensures at { result.0 * CHUNK_ITEMS + result.1 ≡ i }
+    ensures within { result.1 < CHUNK_ITEMS }
 {
     let i = i as usize;
     (i / CHUNK_ITEMS, i % CHUNK_ITEMS)
 }
 
-// Adds a chunk.
-fn add_chunk<T>(chunks: &mut Vec<Chunk<T, Global>, Global>, alloc: &Global) -> Result<(), NoMemory>
+// Adds a chunk whose places are empty.
+fn add_chunk<T>(chunks: &mut Chunks<T>, alloc: &Global) -> Result<(), NoMemory>
     ensures added { OnOk result (Extends chunks.old.items chunks.new.items) }
     ensures one { OnOk result (vec_len chunks.new ≡ vec_len chunks.old + 1) }
     ensures refused { OnErr result (chunks.new.items ≡ chunks.old.items) }
@@ -51,11 +53,7 @@ fn add_chunk<T>(chunks: &mut Vec<Chunk<T, Global>, Global>, alloc: &Global) -> R
 }
 
 // Sees to it that the chunk at `index` is there, where all before it are.
-fn provide<T>(
-    chunks: &mut Vec<Chunk<T, Global>, Global>,
-    index: usize,
-    alloc: &Global,
-) -> Result<(), NoMemory>
+fn provide<T>(chunks: &mut Chunks<T>, index: usize, alloc: &Global) -> Result<(), NoMemory>
     requires { index ≤ vec_len chunks.old }
     ensures provided { OnOk result (index < vec_len chunks.new) }
     ensures kept { OnOk result (Extends chunks.old.items chunks.new.items) }
@@ -68,8 +66,7 @@ fn provide<T>(
 }
 
 // Gives each chunk back.
-fn free_chunks<T>(chunks: Vec<Chunk<T, Global>, Global>, alloc: &Global) {
-    let mut chunks = chunks;
+fn free_chunks<T>(mut chunks: Chunks<T>, alloc: &Global) {
     while let Some(chunk) = chunks.pop() {
         chunk.free(alloc);
     }

@@ -1,18 +1,20 @@
-// A block of memory with a fixed number of places, each of which may hold an item.
+// A block of memory with a fixed number of places, each of which holds an item or room for one.
+// `make`, `put`, `get` and `free` alone touch the memory, and `item_bytes` its layout. An item that is written
+// over, or whose chunk is freed, is forgotten: an arena's items are `Copy`.
 ghost use Rattle.std.specs.Prelude.{◌≡◌, ◌*◌, ◌^◌, ◌<◌, List, length, Some, None, IfSome, IsSome, IsTrue, slice_set, slice_index_or};
 ghost use Rattle.std.specs.Coded.{coded_list, coded_option};
 ghost use Rattle.std.specs.declared.option.Option.{Option};
 ghost use Rattle.std.specs.Mem.{type_size};
-ghost use Rattle.kh_arena.specs.Place.{chunk_owns, chunk_lends, empty_places};
+ghost use Rattle.kh_arena.specs.Ownership.{chunk_owns, chunk_lends, empty_places};
 
 use std::alloc::Allocator;
 use std::marker::{Model, PhantomData};
 use std::mem::{align_of, size_of};
 
 // The bytes of the largest block.
-const MOST_BYTES: usize = 0x7fff_ffff_ffff_ffff;
+const MOST_BYTES: usize = isize::MAX as usize;
 
-/// A block of `len` places at `at`, from the allocator `alloc`.
+/// A block of `len` places at `at`, which `alloc` gave. It owns the places and the right to free them.
 pub(crate) struct Chunk<T, A: Allocator> {
     at: *mut T,
     len: usize,
@@ -28,7 +30,7 @@ impl<T, A: Allocator> Model for Chunk<T, A> {
     ghost also_shares = { λ c _ κ. chunk_lends T.row c.at c.len c.places κ };
 }
 
-// The bytes of an item, where they are fewer than 2^63.
+// The bytes of an item, unless they are 2^63 or more.
 fn item_bytes<T>() -> usize
     ensures { result < 2 ^ 63 → result ≡ type_size T.row }
 {
@@ -57,7 +59,7 @@ impl<T, A: Allocator> Chunk<T, A> {
         }
     }
 
-    // Asks for the block.
+    // Asks the allocator for the block, whose size is known to fit.
     fn make(alloc: &A, len: usize) -> Option<Chunk<T, A>>
         requires { len * type_size T.row < 2 ^ 63 }
         ensures empty { IfSome result (λ c. c.places ≡ empty_places len) }
@@ -73,7 +75,7 @@ impl<T, A: Allocator> Chunk<T, A> {
         }
     }
 
-    // Writes an item into a place, over what it holds.
+    /// Writes an item into a place, over what it holds.
     pub(crate) fn put(&mut self, i: usize, item: T)
         requires { i < length self.old.places }
         ensures places { self.new.places ≡ slice_set self.old.places i (Some item) }
@@ -82,7 +84,7 @@ impl<T, A: Allocator> Chunk<T, A> {
         unsafe { self.at.add(i).write(item) }
     }
 
-    // The item of a place that holds one.
+    /// The item of a place that holds one.
     pub(crate) fn get(&self, i: usize) -> &T
         requires { IsSome (slice_index_or self.now.places i None) }
         ensures { slice_index_or self.now.places i None ≡ Some result.now }
@@ -90,7 +92,7 @@ impl<T, A: Allocator> Chunk<T, A> {
         unsafe { &*self.at.add(i) }
     }
 
-    // Gives the block back.
+    /// Gives the block back to the allocator that it came from.
     pub(crate) fn free(self, alloc: &A)
         requires { self.alloc ≡ alloc.now }
     {

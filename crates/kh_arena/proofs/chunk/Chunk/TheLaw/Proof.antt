@@ -20,7 +20,8 @@ use Rattle.std.specs.Prelude.{Some, None}
 use Rattle.std.specs.declared.option.Option.{Option}
 use Rattle.std.specs.declared.alloc.Allocator.{Ghosts}
 use Rattle.std.specs.contracts.marker.PhantomData as Phantom
-use Rattle.kh_arena.specs.Place.{item_size, place_owns, places_own, block_right, place_lends, places_lend}
+use Rattle.std.specs.Mem.{type_size}
+use Rattle.kh_arena.specs.Ownership.{place_owns, places_own, block_right, place_lends, places_lend}
 use Rattle.kh_arena.specs.contracts.chunk.Chunk as C
 use Rattle.kh_arena.proofs.chunk.Chunk.TheLaw.Statement.{statement}
 
@@ -31,7 +32,7 @@ module _ (R : RattleType) (L : RowLaws R) where
 
   places_laws : (p : Ptr) (ss : List (Option R.Denot)) → ShrLaws (places_lend R p ss)
   places_laws p [] = nothing_shr_laws
-  places_laws p (s ∷ ss) = beside_shr_laws (place_lends R p s) (places_lend R (p +ₚ item_size R) ss) (place_laws p s) (places_laws (p +ₚ item_size R) ss)
+  places_laws p (s ∷ ss) = beside_shr_laws (place_lends R p s) (places_lend R (p +ₚ type_size R) ss) (place_laws p s) (places_laws (p +ₚ type_size R) ss)
 
 module _ {M : Type 1} {𝓤 : Ura M} (𝓛 : Logic 𝓤) (R : RattleType) (l : Lft) (s : Shares 𝓛 R l) where
   Lends-place : (p : Ptr) (x : Option R.Denot) → Lends 𝓛 (place_owns R p x) (place_lends R p x) l
@@ -41,7 +42,7 @@ module _ {M : Type 1} {𝓤 : Ura M} (𝓛 : Logic 𝓤) (R : RattleType) (l : L
   Lends-places : (p : Ptr) (ss : List (Option R.Denot)) → Lends 𝓛 (places_own R p ss) (places_lend R p ss) l
   Lends-places p [] = Lends-nothing 𝓛 ftrue l
   Lends-places p (x ∷ ss) =
-      Lends-both 𝓛 (place_owns R p x) (places_own R (p +ₚ item_size R) ss) (place_lends R p x) (places_lend R (p +ₚ item_size R) ss) l (Lends-place p x) (Lends-places (p +ₚ item_size R) ss)
+      Lends-both 𝓛 (place_owns R p x) (places_own R (p +ₚ type_size R) ss) (place_lends R p x) (places_lend R (p +ₚ type_size R) ss) l (Lends-place p x) (Lends-places (p +ₚ type_size R) ss)
 
   Lends-block : (t : Ty → Ptr → Fml) (p : Ptr) (n : ℕ) (ss : List (Option R.Denot)) → Lends 𝓛 (in_block p (fsep (places_own R p ss) (block_right t R p n))) (places_lend R p ss) l
   Lends-block t (block_ptr b o) n ss = Lends-first 𝓛 (places_own R (block_ptr b o) ss) (block_right t R (block_ptr b o) n) (places_lend R (block_ptr b o) ss) l (Lends-places (block_ptr b o) ss)
@@ -49,10 +50,10 @@ module _ {M : Type 1} {𝓤 : Ura M} (𝓛 : Logic 𝓤) (R : RattleType) (l : L
 
 pub shares : (R B : RattleType) (g : Ghosts B.Denot) (L : Laws R) (K : Laws B) → statement R B g L K
 shares R B g L K = of_Lends (C.struct R B g) (C.the_codes R.Denot B.Denot R.coded B.coded (Phantom.the_row B).coded) (C.the_heap R B g) (C.the_lent R B g)
-    (λ d p. let small = flt (d.len * item_size R) (2 ^ 63) in beside_shr_laws (said small) (places_lend R d.at d.places) (said_shr_laws small tt) (places_laws R L.shr_laws d.at d.places))
+    (λ d p. let small = flt (d.len * type_size R) (2 ^ 63) in beside_shr_laws (said small) (places_lend R d.at d.places) (said_shr_laws small tt) (places_laws R L.shr_laws d.at d.places))
     (copy_shared RawPtr-field RawPtr-copy, (copy_shared usize-field usize-copy, (copy_shared (Phantom.the_field B) (field_copy (Phantom.the_type B) tt), tt)))
     (λ M 𝓤 𝓛 d p.
     let l = (C.the_row R B g).lives in
-    let small = flt (d.len * item_size R) (2 ^ 63) in
+    let small = flt (d.len * type_size R) (2 ^ 63) in
     Lends-both 𝓛 small (in_block d.at (fsep (places_own R d.at d.places) (block_right (g.dealloc_token d.alloc) R d.at d.len))) (said small) (places_lend R d.at d.places) l (Lends-said 𝓛 small tt l)
     (Lends-block 𝓛 R l (Shares-less 𝓛 R R.lives l (Incl-trans (meet_⊑_left (R.lives ++ (B.lives ++ [])) _) (meet_⊑_left R.lives (B.lives ++ []))) (L.shares 𝓛)) (g.dealloc_token d.alloc) d.at d.len d.places))

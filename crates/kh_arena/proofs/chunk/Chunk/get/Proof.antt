@@ -27,7 +27,7 @@ use Rattle.std.proofs.ptr.Rows.{times_below, one_below}
 use Rattle.std.proofs.alloc.Calls.{Al}
 use Rattle.std.proofs.alloc.Shapes.{after}
 use Rattle.std.proofs.raw_atomic.Walks.{proved_at}
-use Rattle.kh_arena.specs.Place.{places_lend}
+use Rattle.kh_arena.specs.Ownership.{places_lend}
 use Rattle.kh_arena.proofs.Places.{sz}
 use Rattle.kh_arena.proofs.Chunks.{args, Cr}
 use Rattle.kh_arena.proofs.Lent.{item_of, item_within, shown, none_at_null, item_lent, pointer_in, pointer_out}

@@ -34,7 +34,7 @@ use Rattle.std.proofs.option.Made.{Some-of, none_of}
 use Rattle.std.proofs.alloc.Calls.{Al, Answer-typed, Takes, at_takes, Answered, Takes-goes, Takes-gives, answers}
 use Rattle.std.proofs.alloc.Shapes.{after, head, arm_body}
 use Rattle.std.proofs.raw_atomic.Walks.{proved_at}
-use Rattle.kh_arena.specs.Place.{empty_places}
+use Rattle.kh_arena.specs.Ownership.{empty_places}
 use Rattle.kh_arena.proofs.Places.{sz, of_room}
 use Rattle.kh_arena.proofs.Blocks.{uncapped, block_ty, block_size, block_align}
 use Rattle.kh_arena.proofs.Chunks.{args, P, Cr, all_of, chunk_val, chunk_made}

@@ -1,21 +1,17 @@
--- What a chunk owns and lends, at any item type R.
+-- What a chunk owns and lends, at any item type R. The memory of a place is owned once, and so is the right to free the block.
 use Rattle.std.specs.Prelude.{ℕ, ◌*◌, ◌^◌, List, [], ◌∷◌, Some, None}
+use Rattle.std.specs.Mem.{type_size}
 use Rattle.std.specs.declared.option.Option.{Option}
 use lib.ListN.{replicate}
 use base.Fraction.{full_share}
 use base.Fml.{Lft, Fml, ftrue, fsep, flt}
 use mir.Syntax.{Ty, ty_array}
 use mir.Raw.{raw}
-use prog.Memory.{size}
 use denote.RattleType.{RattleType}
 use denote.Memory.{lone}
 use denote.RawPtr.{Ptr, lies_at, room_for, in_block, ◌+ₚ◌}
 use denote.Sharing.{nothing, said, beside}
 use denote.Struct.Lending.{lent_at}
-
--- the bytes of an item
-abbrev pub item_size : RattleType → ℕ
-item_size R = size (lone R.mir)
 
 -- a place owns its item, or room for one
 abbrev pub place_owns : (R : RattleType) → Ptr → Option R.Denot → Fml
@@ -25,7 +21,7 @@ place_owns R p None = room_for (raw (lone R.mir)) p
 -- places side by side, from p on
 abbrev pub places_own : (R : RattleType) → Ptr → List (Option R.Denot) → Fml
 places_own R p [] = ftrue
-places_own R p (s ∷ ss) = fsep (place_owns R p s) (places_own R (p +ₚ item_size R) ss)
+places_own R p (s ∷ ss) = fsep (place_owns R p s) (places_own R (p +ₚ type_size R) ss)
 
 -- n places of which none holds an item
 abbrev pub empty_places : {X : Type 0} → ℕ → List (Option X)
@@ -37,16 +33,18 @@ block_right t R p n = t (raw (ty_array (lone R.mir) n)) p
 
 -- what a chunk of n places owns
 abbrev pub chunk_owns : (Ty → Ptr → Fml) → (R : RattleType) → Ptr → ℕ → List (Option R.Denot) → Fml
-chunk_owns t R p n ss = fsep (flt (n * item_size R) (2 ^ 63)) (in_block p (fsep (places_own R p ss) (block_right t R p n)))
+chunk_owns t R p n ss = fsep (flt (n * type_size R) (2 ^ 63)) (in_block p (fsep (places_own R p ss) (block_right t R p n)))
 
+-- a `&` to the item of a place, if it holds one
 abbrev pub place_lends : (R : RattleType) → Ptr → Option R.Denot → Lft → Fml
 place_lends R p (Some x) = lent_at R p x
 place_lends R p None = nothing
 
+-- and to those of places side by side
 abbrev pub places_lend : (R : RattleType) → Ptr → List (Option R.Denot) → Lft → Fml
 places_lend R p [] = nothing
-places_lend R p (s ∷ ss) = beside (place_lends R p s) (places_lend R (p +ₚ item_size R) ss)
+places_lend R p (s ∷ ss) = beside (place_lends R p s) (places_lend R (p +ₚ type_size R) ss)
 
 -- what a `&` to a chunk holds: the bound on its size, and a `&` to each item
 abbrev pub chunk_lends : (R : RattleType) → Ptr → ℕ → List (Option R.Denot) → Lft → Fml
-chunk_lends R p n ss = beside (said (flt (n * item_size R) (2 ^ 63))) (places_lend R p ss)
+chunk_lends R p n ss = beside (said (flt (n * type_size R) (2 ^ 63))) (places_lend R p ss)
