@@ -22,7 +22,7 @@ pair_texts [] = refl
 pair_texts (pair ∷ pairs) = ap (λ ts. shown_pair pair ∷ ts) (pair_texts pairs)
 
 abbrev origin_text : List ℕ → List ℕ → List ℕ → List ℕ
-origin_text home name arity = home ++ 44 ∷ name ++ 44 ∷ arity ++ 44 ∷ []
+origin_text home name arity = home ++ codes "," ++ name ++ codes "," ++ arity ++ codes ","
 
 pub shown-Int : (n : ℤ) → shown (tree.Int n) ≡ signed_decimal n
 shown-Int n = ap shown (sym (rolls-Int n)) ∙ para-roll-TermTree (List ℕ) shown_step (layer.Int n)
@@ -52,10 +52,12 @@ closure_text origin ts = codes "#fun{" ++ with_commas (shown_atom origin.module 
 -- the text of an origin, and then the captured values in brackets
 origin_then : (home name arity rest : List ℕ) → with_commas (home ∷ name ∷ arity ∷ rest ∷ []) ≡ origin_text home name arity ++ rest
 origin_then home name arity rest =
-    let names = home ++ 44 ∷ name in
-    sym (append_assoc (names ++ 44 ∷ arity) (44 ∷ []) rest
-    ∙ (append_assoc names (44 ∷ arity) (44 ∷ rest)
-    ∙ append_assoc home (44 ∷ name) (44 ∷ (arity ++ (44 ∷ rest)))))
+    let comma = codes "," in
+    sym (append_assoc (home ++ comma ++ name ++ comma ++ arity) comma rest
+    ∙ (append_assoc (home ++ comma ++ name ++ comma) arity (44 ∷ rest)
+    ∙ (append_assoc (home ++ comma ++ name) comma (arity ++ (44 ∷ rest))
+    ∙ (append_assoc (home ++ comma) name (44 ∷ (arity ++ (44 ∷ rest)))
+    ∙ append_assoc home comma (name ++ (44 ∷ (arity ++ (44 ∷ rest))))))))
 
 captured_then : (before env : List ℕ) → before ++ (codes "[" ++ env ++ codes "]") ++ codes "}" ≡ before ++ codes "[" ++ env ++ codes "]}"
 captured_then before env =

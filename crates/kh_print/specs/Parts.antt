@@ -6,7 +6,8 @@ use Rattle.kh_text_defs.specs.Shown.{shown, shown_atom, shown_tail}
 
 -- a module, a name and an arity, each with the comma after it
 abbrev pub shown_origin : Origin → List ℕ
-shown_origin origin = shown_atom origin.module ++ 44 ∷ shown_atom origin.name ++ 44 ∷ decimal origin.arity ++ 44 ∷ []
+shown_origin origin =
+    shown_atom origin.module ++ codes "," ++ shown_atom origin.name ++ codes "," ++ decimal origin.arity ++ codes ","
 
 -- a key and its value
 abbrev pub shown_pair : TermTree × TermTree → List ℕ

@@ -16,7 +16,7 @@ use crate::pieces::push_text;
 use kh_term::{NoMemory, Term};
 use std::alloc::Global;
 
-/// The canonical text of a term.
+/// The canonical text of a term. Answers `NoMemory` where the text finds no room.
 pub fn print(alloc: Global, term: &Term) -> Result<Vec<u8>, NoMemory>
     ensures text { IfOk result (λ bytes. bytes.items ≡ shown term.now.node) }
 {
@@ -25,7 +25,7 @@ pub fn print(alloc: Global, term: &Term) -> Result<Vec<u8>, NoMemory>
     Ok(out)
 }
 
-/// A reply as a line: its canonical text, a dot and a newline.
+/// A reply as a line: its canonical text, a dot and a newline. Answers `NoMemory` where the line finds no room.
 pub fn print_line(alloc: Global, reply: &Term) -> Result<Vec<u8>, NoMemory>
     ensures line { IfOk result (λ bytes. bytes.items ≡ shown_line reply.now.node) }
 {
