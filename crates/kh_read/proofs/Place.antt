@@ -41,3 +41,11 @@ pub read_is_placed : (bytes : List ℕ) (at : ℕ) (left : List ℕ) (f : Form) 
     → form_at left ≡ Ok (f, rest) → IsPlaced bytes at f rest
 read_is_placed bytes at left f rest within is e =
     is_placed bytes at f rest within (subst (λ (b : List ℕ). IsFormRead b f rest) is (form_read left (f, rest) e))
+
+-- fewer bytes are behind a form than before it
+pub form_shorter : (bytes : List ℕ) (x : Form × List ℕ) → form_at bytes ≡ Ok x → length x.1 < length bytes
+form_shorter bytes x e =
+    let read = form_read bytes x e in
+    let some = form_some read.text x.0 read.is in
+    let whole : length bytes ≡ length read.text + length x.1 = ap length read.parts ∙ length-append read.text x.1 in
+    omega arith

@@ -1,5 +1,6 @@
 //! Whole forms.
-ghost use Rattle.std.specs.Prelude.{◌≡◌, ◌≤◌, length, IfOk, IfSome, slice_range};
+ghost use Rattle.std.specs.Prelude.{◌≡◌, ◌<◌, ◌≤◌, ℕ, List, Ok, length, IfOk, IfSome, slice_range};
+ghost use Rattle.kh_read.specs.declared.form.Form.{Form};
 ghost use Rattle.kh_read.specs.Form.{IsForm};
 ghost use Rattle.kh_read.specs.Reading.{Gives, ReadsForm, names_at, put_at, get_at, by_keyword, form_at, Grows};
 
@@ -82,3 +83,9 @@ pub fn read_form(alloc: Global, bytes: &[u8], at: usize) -> Result<Option<(Form,
 pub fn later_bytes_change_nothing()
     ensures { Grows form_at }
 {}
+
+/// A form takes at least one byte.
+pub fn a_form_takes_bytes()
+    ensures { (bytes : List ℕ) (x : Form × List ℕ) → form_at bytes ≡ Ok x → length x.1 < length bytes }
+{
+}

@@ -1,3 +1,5 @@
 pub mod TakeBack
 pub mod Told
 pub mod Giving
+pub mod Serving
+pub mod Lines

@@ -3,3 +3,5 @@ pub mod Machine
 pub mod Output
 pub mod Session
 pub mod Line
+pub mod Serving
+pub mod Input

@@ -1,9 +1,11 @@
 //! The store: a script of commands in, a reply for each out.
 #![tactic(auto)]
 
+mod input;
 mod line;
 mod machine;
 mod output;
+mod session;
 mod tree;
 
 fn main() {}
