@@ -3,3 +3,4 @@ pub mod Told
 pub mod Giving
 pub mod Serving
 pub mod Lines
+pub mod Running

@@ -10,7 +10,8 @@ use Rattle.khepri.specs.Session.{script_limit}
 -- what came is behind what came before, and off the input; none comes only at the end of the input
 abbrev pub TakesMore : Piece → Option (List ℕ) → Option (List ℕ) → List ℕ → List ℕ → Type 0
 TakesMore piece.Some left left_after input input_after =
-    (length input < length input_after) × (length input_after ≤ script_limit) × Told left left_after (λ a b. input ++ a ≡ input_after ++ b)
+    (more : List ℕ) × (0 < length more) × (input_after ≡ input ++ more) × (length input_after ≤ script_limit)
+    × Told left left_after (λ a b. a ≡ more ++ b)
 TakesMore piece.None left left_after input input_after =
     (input_after ≡ input) × Told left left_after (λ a b. (a ≡ []) × (b ≡ []))
 

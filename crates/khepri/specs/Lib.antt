@@ -5,3 +5,4 @@ pub mod Session
 pub mod Line
 pub mod Serving
 pub mod Input
+pub mod Run

@@ -5,6 +5,7 @@ mod input;
 mod line;
 mod machine;
 mod output;
+mod run;
 mod session;
 mod tree;
 
