@@ -4,3 +4,5 @@ pub mod Giving
 pub mod Serving
 pub mod Lines
 pub mod Running
+pub mod Unique
+pub mod Status

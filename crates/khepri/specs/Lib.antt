@@ -6,3 +6,4 @@ pub mod Line
 pub mod Serving
 pub mod Input
 pub mod Run
+pub mod Words

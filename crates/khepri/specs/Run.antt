@@ -1,5 +1,5 @@
 -- What a whole run does.
-use Rattle.std.specs.Prelude.{◌≡◌, ℕ, ◌⊎◌, List, [], ◌++◌, Option, Result, Ok, Err}
+use Rattle.std.specs.Prelude.{◌≡◌, ℕ, ◌-◌, ◌<◌, ◌^◌, ◌⊎◌, List, [], ◌++◌, Option, Result, Ok, Err}
 use Rattle.kh_io.specs.Told.{Told, Extends, IsFrontOf}
 use Rattle.khepri.specs.declared.session.Stop.{Stop}
 use Rattle.khepri.specs.declared.session.Stop.TheVariants as stop
@@ -46,3 +46,16 @@ run_status (Err why) = stop_status why
 -- What a run gives, where the host tells its input and what the sink has taken.
 abbrev pub Ends : ℕ → (left left_after sink sink_after : Option (List ℕ)) → Type 0
 Ends status left left_after sink sink_after = Told left left_after (λ input rest. Extends sink sink_after (Ran status input rest))
+
+-- No count of faults has risen, and none is at the end of its type.
+pub record NoFaults (reads reads_after writes writes_after : ℕ) : Type 0 where
+  pub no_read : reads_after ≡ reads
+  pub no_write : writes_after ≡ writes
+  pub read_room : reads_after < 2 ^ 64 - 1
+  pub write_room : writes_after < 2 ^ 64 - 1
+
+-- The status says how the session of the input ends, unless memory ran out: 0 at the end, 2 at bytes that are no form, 9 past
+-- the limit.
+abbrev pub TellsEnding : ℕ → (left left_after sink sink_after : Option (List ℕ)) → Type 0
+TellsEnding status left left_after sink sink_after = Told left left_after (λ input rest. Told sink sink_after (λ a b.
+    (text : List ℕ) (ending : Ending) → WholeSession input text ending → (status ≡ 6) ⊎ (status ≡ ending_status ending)))

@@ -7,6 +7,7 @@ mod machine;
 mod output;
 mod run;
 mod session;
+mod top;
 mod tree;
 
 fn main() {}
