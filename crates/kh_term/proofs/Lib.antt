@@ -1,3 +1,4 @@
 pub mod Fits
 pub mod Layers
 pub mod Lengths
+pub mod Orders

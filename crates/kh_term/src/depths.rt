@@ -42,7 +42,11 @@ fn tree_depth(tree: &TermTree) -> u32
         TermTree::Bin(_) => 0,
         TermTree::Nil => 1,
         TermTree::List(parts, tail) => {
-            let behind = if is_nil(tail.get()) { 0 } else { tree_depth(tail.get()) };
+            let behind = if is_nil(tail.get()) {
+                0
+            } else {
+                tree_depth(tail.get())
+            };
             1 + deepest(parts.as_slice()).max(behind)
         }
         TermTree::Tuple(parts) => 1 + deepest(parts.as_slice()),

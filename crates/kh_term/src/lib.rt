@@ -2,6 +2,7 @@
 #![tactic(auto)]
 
 mod bytes;
+mod comparing;
 mod copying;
 mod depths;
 mod make;
@@ -15,6 +16,7 @@ mod tree;
 mod widths;
 
 pub use bytes::{Atom, Bytes};
+pub use comparing::compare;
 pub use depths::depth;
 pub use make::{atom, bin, int, list, map_of_one, nil, path_term, term_of_name, tuple};
 pub use memory::NoMemory;

@@ -24,7 +24,9 @@ fn tree_size(tree: &TermTree) -> u64
         TermTree::Atom(_) => 1,
         TermTree::Bin(bytes) => 1 + (bytes.as_slice().len() as u64 + 7) / 8,
         TermTree::Nil => 1,
-        TermTree::List(parts, tail) => parts.len() as u64 + sizes(parts.as_slice()) + tree_size(tail.get()),
+        TermTree::List(parts, tail) => parts.len() as u64
+            + sizes(parts.as_slice())
+            + tree_size(tail.get()),
         TermTree::Tuple(parts) => 1 + sizes(parts.as_slice()),
         TermTree::Map(pairs) => 1 + pair_sizes(pairs.as_slice()),
         TermTree::Closure(_, env) => 1 + sizes(env.as_slice()),
