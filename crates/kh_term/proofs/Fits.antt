@@ -1,5 +1,5 @@
 -- Which trees are terms, variant by variant, and what their parts are.
-use Rattle.std.proofs.Common.{◌≡◌, ℕ, ◌+◌, ◌^◌, Bool, true, false, not, IsTrue, nat_le, List, [], ◌∷◌, ◌++◌, length, map, sum, refl, ap, sym, ◌∙◌, subst, ℤ, pos, negsuc, of_z, to_z, SFits, arith}
+use Rattle.std.proofs.Common.{◌&&◌, ◌≡◌, ℕ, ◌+◌, ◌^◌, Bool, true, false, not, IsTrue, nat_le, List, [], ◌∷◌, ◌++◌, length, map, sum, refl, ap, sym, ◌∙◌, subst, ℤ, pos, negsuc, of_z, to_z, SFits, arith}
 use Rattle.std.specs.Int.{w128}
 use Rattle.std.proofs.lemmas.Bool.{and_from}
 use Rattle.std.proofs.lemmas.Int.{to_z-of_z}
@@ -10,7 +10,7 @@ use Rattle.kh_term.specs.declared.tree.TermTree.{TermTree}
 use Rattle.kh_term.specs.declared.tree.TermTree.TheVariants as tree
 use Rattle.kh_term.specs.declared.tree.TermTree.TheVariants.{outs-Nil}
 use Rattle.kh_term.specs.Text.{is_atom_text, are_bytes}
-use Rattle.kh_term.specs.WellFormed.{IsTerm, AreTerms, ArePairs, faults_of, fault_unless, fits_128, is_list_of, is_list, is_origin}
+use Rattle.kh_term.specs.WellFormed.{keys_rise, IsTerm, AreTerms, ArePairs, faults_of, fault_unless, fits_128, is_list_of, is_list, is_origin}
 use Rattle.kh_term.proofs.Layers.{faults-Int, faults-Atom, faults-Bin, faults-Nil, faults-List, faults-Tuple, faults-Map, faults-Closure}
 
 -- a test that holds breaks no rule
@@ -77,5 +77,57 @@ fits_behind t ts h = omega (arith, h, sum-cons (faults_of t) (map faults_of ts))
 
 pub fits_more : (t : TermTree) (ts : List TermTree) → IsTerm t → AreTerms ts → AreTerms (t ∷ ts)
 fits_more t ts h k = omega (arith, h, k, sum-cons (faults_of t) (map faults_of ts))
+
+pub parts_of_tuple : (parts : List TermTree) → IsTerm (tree.Tuple parts) → AreTerms parts
+parts_of_tuple parts h = sym (faults-Tuple parts) ∙ h
+
+pub parts_of_list : (parts : List TermTree) (tail : TermTree) → IsTerm (tree.List parts tail) → AreTerms parts
+parts_of_list parts tail h = omega (arith, h, faults-List parts tail)
+
+pub tail_of_list : (parts : List TermTree) (tail : TermTree) → IsTerm (tree.List parts tail) → IsTerm tail
+tail_of_list parts tail h = omega (arith, h, faults-List parts tail)
+
+-- a list has an element, and its tail is no list
+pub ends_list : (parts : List TermTree) (tail : TermTree) → IsTerm (tree.List parts tail) → IsTrue (is_list_of parts tail)
+ends_list parts tail h =
+    let none : fault_unless (is_list_of parts tail) ≡ 0 = omega (arith, h, faults-List parts tail) in holds _ none
+
+pub parts_of_closure : (origin : Origin) (env : List TermTree) → IsTerm (tree.Closure origin env) → AreTerms env
+parts_of_closure origin env h = omega (arith, h, faults-Closure origin env)
+
+-- the origin is one, and the captured values are no more than its arity
+pub origin_of_closure : (origin : Origin) (env : List TermTree) → IsTerm (tree.Closure origin env) → IsTrue (is_origin origin && nat_le (length env) origin.arity)
+origin_of_closure origin env h =
+    let none : fault_unless (is_origin origin && nat_le (length env) origin.arity) ≡ 0 = omega (arith, h, faults-Closure origin env) in
+    holds _ none
+
+pub pairs_of_map : (pairs : List (TermTree × TermTree)) → IsTerm (tree.Map pairs) → ArePairs pairs
+pairs_of_map pairs h = sym (faults-Map pairs) ∙ h
+
+pub keys_rise_in : (pairs : List (TermTree × TermTree)) → ArePairs pairs → IsTrue (keys_rise (map (λ p. p.0) pairs))
+keys_rise_in pairs h =
+    let none : fault_unless (keys_rise (map (λ p. p.0) pairs)) ≡ 0 = omega (arith, h) in holds _ none
+
+pub keys_of_pairs : (pairs : List (TermTree × TermTree)) → sum (map (λ p. faults_of p.0 + faults_of p.1) pairs) ≡ 0 → AreTerms (map (λ p. p.0) pairs)
+keys_of_pairs [] h = refl
+keys_of_pairs (p ∷ pairs) h =
+    let split = sum-cons (faults_of p.0 + faults_of p.1) (map (λ q. faults_of q.0 + faults_of q.1) pairs) in
+    let none : sum (map (λ q. faults_of q.0 + faults_of q.1) pairs) ≡ 0 = omega (arith, h, split) in
+    let first : IsTerm p.0 = omega (arith, h, split) in
+    fits_more p.0 (map (λ q. q.0) pairs) first (keys_of_pairs pairs none)
+
+pub values_of_pairs : (pairs : List (TermTree × TermTree)) → sum (map (λ p. faults_of p.0 + faults_of p.1) pairs) ≡ 0 → AreTerms (map (λ p. p.1) pairs)
+values_of_pairs [] h = refl
+values_of_pairs (p ∷ pairs) h =
+    let split = sum-cons (faults_of p.0 + faults_of p.1) (map (λ q. faults_of q.0 + faults_of q.1) pairs) in
+    let none : sum (map (λ q. faults_of q.0 + faults_of q.1) pairs) ≡ 0 = omega (arith, h, split) in
+    let first : IsTerm p.1 = omega (arith, h, split) in
+    fits_more p.1 (map (λ q. q.1) pairs) first (values_of_pairs pairs none)
+
+pub keys_of_map : (pairs : List (TermTree × TermTree)) → ArePairs pairs → AreTerms (map (λ p. p.0) pairs)
+keys_of_map pairs h = keys_of_pairs pairs (omega (arith, h))
+
+pub values_of_map : (pairs : List (TermTree × TermTree)) → ArePairs pairs → AreTerms (map (λ p. p.1) pairs)
+values_of_map pairs h = values_of_pairs pairs (omega (arith, h))
 
 pub ruleset terms = (fits-Int, fits-Atom, fits-Bin, fits-Nil, fits-Tuple, fits-List, fits-Map, fits-Closure, fits_proper, fits_one_pair, fits_pushed, fits_front, fits_behind, fits_more)

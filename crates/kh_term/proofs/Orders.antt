@@ -47,7 +47,7 @@ order-Closure origin env t = ap (λ x. term_cmp x t) (sym (rolls-Closure origin 
 -- ---- two of one kind
 
 -- what the layer of the second term is
-seen : (x : TermTree-F Compared) (t : TermTree) (l : TermTree-F TermTree) → out-TermTree t ≡ l → compare_layers x t ≡ ordering_then (nat_cmp (rank_of x) (rank_of l)) (compare_alike x l)
+pub seen : (x : TermTree-F Compared) (t : TermTree) (l : TermTree-F TermTree) → out-TermTree t ≡ l → compare_layers x t ≡ ordering_then (nat_cmp (rank_of x) (rank_of l)) (compare_alike x l)
 seen x t l e = ap (λ m. ordering_then (nat_cmp (rank_of x) (rank_of m)) (compare_alike x m)) e
 
 pub alike-Int : (m n : ℤ) → term_cmp (tree.Int m) (tree.Int n) ≡ int_cmp m n
