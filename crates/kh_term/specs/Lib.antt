@@ -1,3 +1,4 @@
+pub mod Lemmas
 pub mod Make
 pub mod Name
 pub mod Order

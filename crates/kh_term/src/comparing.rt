@@ -17,7 +17,7 @@ pub fn compare(a: &Term, b: &Term) -> Ordering
 // The rank of lists.
 const LIST: u8 = 6;
 
-#[tactic(auto, using(crate::proofs::Layers::nils))]
+#[tactic(auto, using(crate::specs::Lemmas::Layers::nils))]
 fn rank(tree: &TermTree) -> u8
     ensures { result ≡ rank_of (out-TermTree tree.now) }
 {
@@ -34,7 +34,7 @@ fn rank(tree: &TermTree) -> u8
 }
 
 #[cycle(compare)]
-#[tactic(auto, using(crate::proofs::Orders::kinds))]
+#[tactic(auto, using(crate::specs::Lemmas::Orders::kinds))]
 fn tree_cmp(a: &TermTree, b: &TermTree) -> Ordering
     ensures { result ≡ term_cmp a.now b.now }
 {
@@ -70,7 +70,7 @@ fn tree_cmp(a: &TermTree, b: &TermTree) -> Ordering
 }
 
 #[cycle(compare)]
-#[tactic(auto, using(crate::proofs::Orders::parts_by_shared))]
+#[tactic(auto, using(crate::specs::Lemmas::Orders::parts_by_shared))]
 fn parts_cmp(xs: &[TermTree], ys: &[TermTree]) -> Ordering
     ensures { result ≡ compare_parts (map compared xs.now) ys.now }
 {
@@ -99,7 +99,7 @@ fn shared_cmp(xs: &[TermTree], ys: &[TermTree]) -> Ordering
 
 // Two maps of as many pairs.
 #[cycle(compare)]
-#[tactic(auto, using(crate::proofs::Orders::pairs_by_shared))]
+#[tactic(auto, using(crate::specs::Lemmas::Orders::pairs_by_shared))]
 fn pairs_cmp(ps: &[(TermTree, TermTree)], qs: &[(TermTree, TermTree)]) -> Ordering
     requires { length ps.now ≡ length qs.now }
     ensures { result ≡ compare_pairs ps.now qs.now }

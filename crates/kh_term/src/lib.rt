@@ -8,6 +8,7 @@ mod depths;
 mod make;
 mod memory;
 mod name;
+mod ordered;
 mod packed_lens;
 mod path;
 mod sizes;

@@ -38,7 +38,7 @@ impl Terms {
     }
 }
 
-#[tactic(auto, using(crate::proofs::Fits::terms))]
+#[tactic(auto, using(crate::specs::Lemmas::Fits::terms))]
 pub fn int(number: i128) -> Term
     ensures { result.node ≡ tree.Int number }
 {
@@ -47,7 +47,7 @@ pub fn int(number: i128) -> Term
     }
 }
 
-#[tactic(auto, using(crate::proofs::Fits::terms))]
+#[tactic(auto, using(crate::specs::Lemmas::Fits::terms))]
 pub fn atom(text: Atom) -> Term
     ensures { result.node ≡ tree.Atom text }
 {
@@ -57,7 +57,7 @@ pub fn atom(text: Atom) -> Term
     }
 }
 
-#[tactic(auto, using(crate::proofs::Fits::terms))]
+#[tactic(auto, using(crate::specs::Lemmas::Fits::terms))]
 /// A binary of these bytes.
 pub fn bin(bytes: Bytes) -> Term
     ensures { result.node ≡ tree.Bin bytes }
@@ -68,7 +68,7 @@ pub fn bin(bytes: Bytes) -> Term
     }
 }
 
-#[tactic(auto, using(crate::proofs::Fits::terms))]
+#[tactic(auto, using(crate::specs::Lemmas::Fits::terms))]
 pub fn nil() -> Term
     ensures { result.node ≡ tree.Nil }
 {
@@ -77,7 +77,7 @@ pub fn nil() -> Term
     }
 }
 
-#[tactic(auto, using(crate::proofs::Fits::terms))]
+#[tactic(auto, using(crate::specs::Lemmas::Fits::terms))]
 pub fn tuple(parts: Terms) -> Term
     ensures { result.node ≡ tree.Tuple parts.nodes }
 {
@@ -87,7 +87,7 @@ pub fn tuple(parts: Terms) -> Term
     }
 }
 
-#[tactic(auto, using(crate::proofs::Fits::terms))]
+#[tactic(auto, using(crate::specs::Lemmas::Fits::terms))]
 /// The list of these terms, nil where there are none.
 pub fn list(alloc: Global, parts: Terms) -> Result<Term, NoMemory>
     ensures { IfOk result (λ t. t.node ≡ list_of parts.nodes) }
@@ -104,7 +104,7 @@ pub fn list(alloc: Global, parts: Terms) -> Result<Term, NoMemory>
     })
 }
 
-#[tactic(auto, using(crate::proofs::Fits::terms))]
+#[tactic(auto, using(crate::specs::Lemmas::Fits::terms))]
 /// The map with this one key.
 pub fn map_of_one(alloc: Global, key: Term, value: Term) -> Result<Term, NoMemory>
     ensures { IfOk result (λ t. t.node ≡ tree.Map ((key.node, value.node) ∷ [])) }

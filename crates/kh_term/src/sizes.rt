@@ -14,7 +14,7 @@ pub fn size(term: &Term) -> u64
 }
 
 #[cycle(size)]
-#[tactic(auto, using(crate::proofs::Layers::sizes))]
+#[tactic(auto, using(crate::specs::Lemmas::Layers::sizes))]
 fn tree_size(tree: &TermTree) -> u64
     requires { size_of tree.now < 2 ^ 64 }
     ensures { result ≡ size_of tree.now }
@@ -34,7 +34,7 @@ fn tree_size(tree: &TermTree) -> u64
 }
 
 #[cycle(size)]
-#[tactic(auto, using(crate::proofs::Layers::sizes))]
+#[tactic(auto, using(crate::specs::Lemmas::Layers::sizes))]
 fn sizes(trees: &[TermTree]) -> u64
     requires { sizes_of trees.now < 2 ^ 64 }
     ensures { result ≡ sizes_of trees.now }
@@ -47,7 +47,7 @@ fn sizes(trees: &[TermTree]) -> u64
 }
 
 #[cycle(size)]
-#[tactic(auto, using(crate::proofs::Layers::sizes))]
+#[tactic(auto, using(crate::specs::Lemmas::Layers::sizes))]
 fn pair_sizes(pairs: &[(TermTree, TermTree)]) -> u64
     requires { pair_sizes_of pairs.now < 2 ^ 64 }
     ensures { result ≡ pair_sizes_of pairs.now }

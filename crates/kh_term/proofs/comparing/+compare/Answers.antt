@@ -2,7 +2,7 @@ use Rattle.std.proofs.Common.{ap, sym, ◌∙◌, map}
 use Rattle.std.specs.Ordering.{nat_cmp}
 use Rattle.kh_term.specs.declared.tree.TermTree.{out-TermTree}
 use Rattle.kh_term.specs.Order.{term_cmp, compared, compare_shared, compare_parts, rank_of}
-use Rattle.kh_term.proofs.Orders.{list_less, list_equal, list_greater, list_decided, two_closures, IsByKind, other-Int, other-Atom, other-Bin, other-List, other-Tuple, other-Map, other-Closure, other-Nil}
+use Rattle.kh_term.specs.Lemmas.Orders.{list_less, list_equal, list_greater, list_decided, two_closures, IsByKind, other-Int, other-Atom, other-Bin, other-List, other-Tuple, other-Map, other-Closure, other-Nil}
 use Rattle.kh_term.proofs.comparing.+compare.Goals as goal
 use Rattle.kh_term.proofs.comparing.+compare.Goals.{tree_cmp-in_default-via-in-Int+in_default, tree_cmp-in_default-via-in-Atom+in_default, tree_cmp-in_default-via-in-Bin+in_default, tree_cmp-in_default-via-in-Closure+in_default, tree_cmp-in_default-via-in-Tuple+in_default, tree_cmp-in_default-via-in-Map+in_default, tree_cmp-in_default-via-in-List+in_default, tree_cmp-in_default-via-in_default}
 

@@ -14,7 +14,7 @@ use Rattle.kh_term.specs.declared.tree.TermTree.TheOpen.{TermTree-F}
 use Rattle.kh_term.specs.declared.tree.TermTree.TheOpen as layer
 use Rattle.kh_term.specs.declared.tree.TermTree.TheFolds.{para-roll-TermTree}
 use Rattle.std.proofs.lemmas.List.{length-map}
-use Rattle.kh_term.proofs.Layers.{joined}
+use Rattle.kh_term.specs.Lemmas.Layers.{joined}
 use Rattle.kh_term.specs.Name.{origin_cmp}
 use Rattle.kh_term.specs.Order.{term_cmp, rank_of, compared, Compared, compare_layers, compare_alike, compare_parts, compare_lists, compare_pairs, compare_shared}
 

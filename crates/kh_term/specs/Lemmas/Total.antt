@@ -16,15 +16,15 @@ use Rattle.kh_term.specs.declared.tree.TermTree.TheOpen as layer
 use Rattle.kh_term.specs.Name.{origin_cmp}
 use Rattle.kh_term.specs.WellFormed.{IsTerm, AreTerms, is_list, is_list_of}
 use Rattle.kh_term.specs.Order.{term_cmp, rank_of, compare_parts, compare_lists, compare_pairs, compared, Compared}
-use Rattle.kh_term.proofs.Fits.{parts_of_tuple, parts_of_list, tail_of_list, ends_list, parts_of_closure, pairs_of_map, keys_of_map, values_of_map}
-use Rattle.kh_term.proofs.Induction.{by_parts, Each, OfBoth}
+use Rattle.kh_term.specs.Lemmas.Fits.{parts_of_tuple, parts_of_list, tail_of_list, ends_list, parts_of_closure, pairs_of_map, keys_of_map, values_of_map}
+use Rattle.kh_term.specs.Lemmas.Induction.{by_parts, Each, OfBoth}
 use Rattle.std.proofs.lemmas.List.{length-map}
-use Rattle.kh_term.proofs.Layers.{joined}
-use Rattle.kh_term.proofs.Keys.{key, key-Int, key-Atom, key-Bin, key-Nil, key-List, key-Tuple, key-Map, key-Closure, all, chained, ended, compare_keys, int_cmp-pos, texts_keys, Agrees, apart, same_long, ended_parts, chains, then_assoc, decided_by}
-use Rattle.kh_term.proofs.Orders.{seen, order-Int, order-Atom, order-Bin, order-Nil, order-List, order-Tuple, order-Map, order-Closure, alike-Int, alike-Atom, alike-Bin, alike-Nil, alike-List, alike-Tuple, alike-Map, alike-Closure}
+use Rattle.kh_term.specs.Lemmas.Layers.{joined}
+use Rattle.kh_term.specs.Lemmas.Keys.{key, key-Int, key-Atom, key-Bin, key-Nil, key-List, key-Tuple, key-Map, key-Closure, all, chained, ended, compare_keys, int_cmp-pos, texts_keys, Agrees, apart, same_long, ended_parts, chains, then_assoc, decided_by}
+use Rattle.kh_term.specs.Lemmas.Orders.{seen, order-Int, order-Atom, order-Bin, order-Nil, order-List, order-Tuple, order-Map, order-Closure, alike-Int, alike-Atom, alike-Bin, alike-Nil, alike-List, alike-Tuple, alike-Map, alike-Closure}
 
 -- a tree is the one of its layer
-layered : (b : TermTree) (l : TermTree-F TermTree) → out-TermTree b ≡ l → b ≡ roll-TermTree l
+pub layered : (b : TermTree) (l : TermTree-F TermTree) → out-TermTree b ≡ l → b ≡ roll-TermTree l
 layered b l e = sym (roll-out-TermTree b) ∙ ap roll-TermTree e
 
 -- what is said of two terms goes over to an equal second one
@@ -45,7 +45,7 @@ both-Bin x y u v = (λ i. compare_keys (key-Bin x i ++ u) (key-Bin y i ++ v)) �
 both-Nil : (u v : List ℤ) → compare_keys (key tree.Nil ++ u) (key tree.Nil ++ v) ≡ ordering_then (term_cmp tree.Nil tree.Nil) (compare_keys u v)
 both-Nil u v = (λ i. compare_keys (key-Nil i ++ u) (key-Nil i ++ v)) ∙ sym (ap (λ o. ordering_then o (compare_keys u v)) alike-Nil)
 
-no_list : (xs : List TermTree) (t : TermTree) → IsTrue (is_list_of xs t) → is_list (out-TermTree t) ≡ false
+pub no_list : (xs : List TermTree) (t : TermTree) → IsTrue (is_list_of xs t) → is_list (out-TermTree t) ≡ false
 no_list [] t h = absurd (cc)
 no_list (x ∷ xs) t h = go (is_list (out-TermTree t)) h
   where
@@ -112,16 +112,16 @@ values_each [] each = tt
 values_each (p ∷ ps) each = (each.0.1, values_each ps each.1)
 
 -- the keys and the values of pairs
-abbrev firsts : List (TermTree × TermTree) → List TermTree
+abbrev pub firsts : List (TermTree × TermTree) → List TermTree
 firsts ps = map (λ p. p.0) ps
 
-abbrev seconds : List (TermTree × TermTree) → List TermTree
+abbrev pub seconds : List (TermTree × TermTree) → List TermTree
 seconds ps = map (λ p. p.1) ps
 
 key_of_map : (ps : List (TermTree × TermTree)) → key (tree.Map ps) ≡ pos 4 ∷ pos (length ps) ∷ (all (map key (firsts ps)) ++ all (map key (seconds ps)))
 key_of_map ps = key-Map ps ∙ (λ i. pos 4 ∷ pos (length ps) ∷ (all (sym (joined {A = TermTree × TermTree} (λ p. p.0) key ps) i) ++ all (sym (joined {A = TermTree × TermTree} (λ p. p.1) key ps) i)))
 
-pairs_as_parts : (ps qs : List (TermTree × TermTree)) → compare_pairs ps qs ≡ ordering_then (compare_parts (map compared (firsts ps)) (firsts qs)) (compare_parts (map compared (seconds ps)) (seconds qs))
+pub pairs_as_parts : (ps qs : List (TermTree × TermTree)) → compare_pairs ps qs ≡ ordering_then (compare_parts (map compared (firsts ps)) (firsts qs)) (compare_parts (map compared (seconds ps)) (seconds qs))
 pairs_as_parts ps qs = λ i. ordering_then (compare_parts (sym (joined {A = TermTree × TermTree} (λ p. p.0) compared ps) i) (firsts qs)) (compare_parts (sym (joined {A = TermTree × TermTree} (λ p. p.1) compared ps) i) (seconds qs))
 
 both-Map : (ps qs : List (TermTree × TermTree)) (u v : List ℤ) → Each (OfBoth Agrees) ps → IsTerm (tree.Map ps) → IsTerm (tree.Map qs) → compare_keys (key (tree.Map ps) ++ u) (key (tree.Map qs) ++ v) ≡ ordering_then (term_cmp (tree.Map ps) (tree.Map qs)) (compare_keys u v)

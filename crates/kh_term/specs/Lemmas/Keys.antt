@@ -17,9 +17,9 @@ use Rattle.kh_term.specs.declared.tree.TermTree.TheFolds.{fold-TermTree, fold-ro
 use Rattle.kh_term.specs.WellFormed.{IsTerm, AreTerms, is_list}
 use Rattle.kh_term.specs.Order.{term_cmp, rank_of, compare_parts, compare_lists, compared, Compared}
 use Rattle.std.proofs.lemmas.List.{length-map}
-use Rattle.kh_term.proofs.Fits.{fits_front, fits_behind, ends_list}
-use Rattle.kh_term.proofs.Induction.{by_parts, Each, OfBoth}
-use Rattle.kh_term.proofs.Layers.{joined}
+use Rattle.kh_term.specs.Lemmas.Fits.{fits_front, fits_behind, ends_list}
+use Rattle.kh_term.specs.Lemmas.Induction.{by_parts, Each, OfBoth}
+use Rattle.kh_term.specs.Lemmas.Layers.{joined}
 use mathlib.Core.Bool.{true≢false}
 
 -- ---- the integers of a term
@@ -173,11 +173,11 @@ ended_parts (x ∷ xs) (y ∷ ys) u v each h k =
     ∙ sym (then_assoc (term_cmp x y) (compare_parts (map compared xs) ys) (compare_keys u v))))
 
 -- what is no list has another rank
-not_six : (l : TermTree-F TermTree) → is_list l ≡ false → is_eq (nat_cmp (rank_of l) 6) ≡ false
+pub not_six : (l : TermTree-F TermTree) → is_list l ≡ false → is_eq (nat_cmp (rank_of l) 6) ≡ false
 not_six (layer.List xs t) h = absurd (cc)
 not_six l h = refl
 
-six_not : (l : TermTree-F TermTree) → is_list l ≡ false → is_eq (nat_cmp 6 (rank_of l)) ≡ false
+pub six_not : (l : TermTree-F TermTree) → is_list l ≡ false → is_eq (nat_cmp 6 (rank_of l)) ≡ false
 six_not (layer.List xs t) h = absurd (cc)
 six_not l h = refl
 

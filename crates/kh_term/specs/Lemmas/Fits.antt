@@ -11,7 +11,7 @@ use Rattle.kh_term.specs.declared.tree.TermTree.TheVariants as tree
 use Rattle.kh_term.specs.declared.tree.TermTree.TheVariants.{outs-Nil}
 use Rattle.kh_term.specs.Text.{is_atom_text, are_bytes}
 use Rattle.kh_term.specs.WellFormed.{keys_rise, IsTerm, AreTerms, ArePairs, faults_of, fault_unless, fits_128, is_list_of, is_list, is_origin}
-use Rattle.kh_term.proofs.Layers.{faults-Int, faults-Atom, faults-Bin, faults-Nil, faults-List, faults-Tuple, faults-Map, faults-Closure}
+use Rattle.kh_term.specs.Lemmas.Layers.{faults-Int, faults-Atom, faults-Bin, faults-Nil, faults-List, faults-Tuple, faults-Map, faults-Closure}
 
 -- a test that holds breaks no rule
 pub no_fault : (b : Bool) → IsTrue b → fault_unless b ≡ 0
