@@ -1,2 +1,4 @@
+pub mod Bounds
 pub mod Lengths
+pub mod Paths
 pub mod Same

@@ -1,10 +1,10 @@
 -- Terms that compare equal are the same.
 use Rattle.std.proofs.Math.Nat.{ℕ_set}
-use Rattle.std.proofs.Common.{◌≡◌, ℕ, Bool, true, false, List, [], ◌∷◌, length, map, refl, ap, sym, ◌∙◌, subst, ℤ, arith}
+use Rattle.std.proofs.Common.{◌↔◌, ◌≡◌, ℕ, false, List, [], ◌∷◌, length, map, refl, ap, sym, ◌∙◌, subst, ℤ}
 use Rattle.std.specs.declared.cmp.Ordering.{Ordering}
 use Rattle.std.specs.declared.cmp.Ordering.TheVariants.{Less, Equal, Greater}
-use Rattle.std.specs.Ordering.{nat_cmp, int_cmp, ordering_then, is_eq, MatchOrdering}
-use Rattle.std.specs.Cmp.{ranks}
+use Rattle.std.specs.Ordering.{nat_cmp, int_cmp, ordering_then, is_eq}
+use Rattle.std.specs.Cmp.{tied_itself}
 use Rattle.std.specs.Cmp.Lexicographic.{slice_cmp}
 use Rattle.std.proofs.lemmas.Cmp.{ranked, int_ranked}
 use Rattle.kh_term.specs.declared.name.Origin.{Origin}
@@ -15,13 +15,13 @@ use Rattle.kh_term.specs.declared.tree.TermTree.TheVariants.{rolls-Int, rolls-At
 use Rattle.kh_term.specs.declared.tree.TermTree.TheOpen.{TermTree-F}
 use Rattle.kh_term.specs.declared.tree.TermTree.TheOpen as layer
 use Rattle.kh_term.specs.Name.{origin_cmp}
-use Rattle.kh_term.specs.WellFormed.{faults_of, IsTerm, AreTerms, is_list, is_list_of}
-use Rattle.kh_term.specs.Order.{term_cmp, rank_of, compare_parts, compare_lists, compare_pairs, compared, Compared}
+use Rattle.kh_term.specs.WellFormed.{faults_of, IsTerm, AreTerms, is_list}
+use Rattle.kh_term.specs.Order.{term_cmp, compare_parts, compare_lists, compare_pairs, compared}
 use Rattle.kh_term.specs.Lemmas.Fits.{fits_front, fits_behind, parts_of_tuple, parts_of_list, tail_of_list, ends_list, parts_of_closure, pairs_of_map, keys_of_map, values_of_map}
 use Rattle.kh_term.specs.Lemmas.Induction.{by_parts, Each, OfBoth}
 use Rattle.kh_term.specs.Lemmas.Keys.{not_six, six_not}
 use Rattle.kh_term.specs.Lemmas.Orders.{seen, order-Int, order-Atom, order-Bin, order-Nil, order-List, order-Tuple, order-Map, order-Closure, alike-Int, alike-Atom, alike-Bin, alike-List, alike-Tuple, alike-Map, alike-Closure}
-use Rattle.kh_term.specs.Lemmas.Total.{layered, no_list, firsts, seconds, pairs_as_parts}
+use Rattle.kh_term.specs.Lemmas.Total.{terms_total, layered, no_list, firsts, seconds, pairs_as_parts}
 
 -- both answers are Equal where the chain of them is
 both_equal : (o r : Ordering) → ordering_then o r ≡ Equal → (o ≡ Equal) × (r ≡ Equal)
@@ -197,3 +197,7 @@ same_node x y e = go y.node e y.fits
 -- terms that compare equal are one
 pub same_term : (x y : Term) → term_cmp x.node y.node ≡ Equal → x ≡ y
 same_term x y e = same_node x y (same x.node y.node x.fits y.fits e)
+
+-- and one term compares equal with itself
+pub same_exactly : (x y : Term) → (term_cmp x.node y.node ≡ Equal) ↔ (x ≡ y)
+same_exactly x y = (same_term x y, λ e. ap (λ z. term_cmp x.node z.node) (sym e) ∙ tied_itself terms_total x)

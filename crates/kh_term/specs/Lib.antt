@@ -1,3 +1,4 @@
+pub mod Laws
 pub mod Lemmas
 pub mod Make
 pub mod Name

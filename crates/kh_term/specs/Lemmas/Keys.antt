@@ -1,6 +1,5 @@
 -- Each term as a list of integers that compares as the term does.
-use Rattle.std.proofs.Common.{◌≡◌, ◌<◌, ℕ, suc, zero, ◌+◌, Bool, true, false, cond, not, nat_lt, nat_le, IsTrue, List, [], ◌∷◌, ◌++◌, length, map, append_assoc, refl, ap, sym, ◌∙◌, subst, ℤ, pos, negsuc, arith}
-use Rattle.std.specs.List.{flat_map}
+use Rattle.std.proofs.Common.{◌≡◌, ◌<◌, ℕ, false, cond, nat_lt, List, [], ◌∷◌, ◌++◌, length, map, append_assoc, refl, ap, sym, ◌∙◌, ℤ, pos, negsuc, arith}
 use Rattle.std.specs.declared.cmp.Ordering.{Ordering}
 use Rattle.std.specs.declared.cmp.Ordering.TheVariants.{Less, Equal, Greater}
 use Rattle.std.specs.Ordering.{nat_cmp, int_cmp, ordering_then, is_eq, MatchOrdering}
@@ -15,10 +14,10 @@ use Rattle.kh_term.specs.declared.tree.TermTree.TheOpen.{TermTree-F}
 use Rattle.kh_term.specs.declared.tree.TermTree.TheOpen as layer
 use Rattle.kh_term.specs.declared.tree.TermTree.TheFolds.{fold-TermTree, fold-roll-TermTree}
 use Rattle.kh_term.specs.WellFormed.{IsTerm, AreTerms, is_list}
-use Rattle.kh_term.specs.Order.{term_cmp, rank_of, compare_parts, compare_lists, compared, Compared}
+use Rattle.kh_term.specs.Order.{term_cmp, rank_of, compare_parts, compare_lists, compared}
 use Rattle.std.proofs.lemmas.List.{length-map}
 use Rattle.kh_term.specs.Lemmas.Fits.{fits_front, fits_behind, ends_list}
-use Rattle.kh_term.specs.Lemmas.Induction.{by_parts, Each, OfBoth}
+use Rattle.kh_term.specs.Lemmas.Induction.{by_parts, Each}
 use Rattle.kh_term.specs.Lemmas.Layers.{joined}
 use mathlib.Core.Bool.{true≢false}
 

@@ -1,8 +1,8 @@
 -- The order of terms is a total one.
-use Rattle.std.proofs.Common.{◌≡◌, ◌<◌, ℕ, Bool, true, false, not, IsTrue, List, [], ◌∷◌, ◌++◌, length, map, append_assoc, refl, ap, sym, ◌∙◌, subst, ℤ, pos, negsuc, arith}
+use Rattle.std.proofs.Common.{◌≡◌, ◌<◌, ℕ, Bool, true, false, not, IsTrue, List, [], ◌∷◌, ◌++◌, length, map, append_assoc, refl, ap, sym, ◌∙◌, subst, ℤ, pos, negsuc}
 use Rattle.std.specs.declared.cmp.Ordering.{Ordering}
 use Rattle.std.specs.declared.cmp.Ordering.TheVariants.{Less, Equal, Greater}
-use Rattle.std.specs.Ordering.{nat_cmp, int_cmp, ordering_then, MatchOrdering, on}
+use Rattle.std.specs.Ordering.{nat_cmp, int_cmp, ordering_then, MatchOrdering}
 use Rattle.std.specs.Cmp.{IsTotalOrder, ranks, on_total, int_cmp_total}
 use Rattle.std.specs.Cmp.Lexicographic.{slice_cmp, lists_total}
 use Rattle.kh_term.specs.declared.name.Origin.{Origin}
@@ -13,14 +13,13 @@ use Rattle.kh_term.specs.declared.tree.TermTree.TheVariants.{outs-Int, outs-Atom
 use Rattle.kh_term.specs.declared.tree.TermTree.TheViews.{roll-TermTree, roll-out-TermTree}
 use Rattle.kh_term.specs.declared.tree.TermTree.TheOpen.{TermTree-F}
 use Rattle.kh_term.specs.declared.tree.TermTree.TheOpen as layer
-use Rattle.kh_term.specs.Name.{origin_cmp}
-use Rattle.kh_term.specs.WellFormed.{IsTerm, AreTerms, is_list, is_list_of}
-use Rattle.kh_term.specs.Order.{term_cmp, rank_of, compare_parts, compare_lists, compare_pairs, compared, Compared}
+use Rattle.kh_term.specs.WellFormed.{IsTerm, is_list, is_list_of}
+use Rattle.kh_term.specs.Order.{term_cmp, rank_of, compare_parts, compare_pairs, compared}
 use Rattle.kh_term.specs.Lemmas.Fits.{parts_of_tuple, parts_of_list, tail_of_list, ends_list, parts_of_closure, pairs_of_map, keys_of_map, values_of_map}
 use Rattle.kh_term.specs.Lemmas.Induction.{by_parts, Each, OfBoth}
 use Rattle.std.proofs.lemmas.List.{length-map}
 use Rattle.kh_term.specs.Lemmas.Layers.{joined}
-use Rattle.kh_term.specs.Lemmas.Keys.{key, key-Int, key-Atom, key-Bin, key-Nil, key-List, key-Tuple, key-Map, key-Closure, all, chained, ended, compare_keys, int_cmp-pos, texts_keys, Agrees, apart, same_long, ended_parts, chains, then_assoc, decided_by}
+use Rattle.kh_term.specs.Lemmas.Keys.{key, key-Int, key-Atom, key-Bin, key-Nil, key-List, key-Tuple, key-Map, key-Closure, all, ended, compare_keys, int_cmp-pos, texts_keys, Agrees, apart, same_long, ended_parts, chains, then_assoc}
 use Rattle.kh_term.specs.Lemmas.Orders.{seen, order-Int, order-Atom, order-Bin, order-Nil, order-List, order-Tuple, order-Map, order-Closure, alike-Int, alike-Atom, alike-Bin, alike-Nil, alike-List, alike-Tuple, alike-Map, alike-Closure}
 
 -- a tree is the one of its layer
@@ -72,7 +71,7 @@ both-Tuple : (xs ys : List TermTree) (u v : List ℤ) → Each Agrees xs → IsT
 both-Tuple xs ys u v each h k =
     (λ i. compare_keys (key-Tuple xs i ++ u) (key-Tuple ys i ++ v))
     ∙ (by_number (length xs) (length ys) (all (map key xs) ++ u) (all (map key ys) ++ v) (compare_parts (map compared xs) ys) (compare_keys u v)
-        (λ e. same_long xs ys u v each (parts_of_tuple xs h) (parts_of_tuple ys k) e)
+    (λ e. same_long xs ys u v each (parts_of_tuple xs h) (parts_of_tuple ys k) e)
     ∙ sym (ap (λ o. ordering_then o (compare_keys u v)) (alike-Tuple xs ys)))
 
 regrouped : (x y z u : List ℤ) (n : ℤ) → (x ++ (y ++ (n ∷ (z ++ (negsuc 0 ∷ []))))) ++ u ≡ x ++ (y ++ (n ∷ (z ++ (negsuc 0 ∷ u))))
@@ -132,10 +131,10 @@ both-Map ps qs u v each h k =
     let ks = pairs_of_map qs k in
     (λ i. compare_keys (key_of_map ps i ++ u) (key_of_map qs i ++ v))
     ∙ (by_number (length ps) (length qs) ((all (map key (firsts ps)) ++ all (map key (seconds ps))) ++ u) ((all (map key (firsts qs)) ++ all (map key (seconds qs))) ++ v) (ordering_then first second) (compare_keys u v)
-        (λ e. (λ i. compare_keys (append_assoc (all (map key (firsts ps))) (all (map key (seconds ps))) u i) (append_assoc (all (map key (firsts qs))) (all (map key (seconds qs))) v i))
-        ∙ (same_long (firsts ps) (firsts qs) (all (map key (seconds ps)) ++ u) (all (map key (seconds qs)) ++ v) (keys_each ps each) (keys_of_map ps hs) (keys_of_map qs ks) (length-map ps (λ p. p.0) ∙ (e ∙ sym (length-map qs (λ p. p.0))))
-        ∙ (ap (ordering_then first) (same_long (seconds ps) (seconds qs) u v (values_each ps each) (values_of_map ps hs) (values_of_map qs ks) (length-map ps (λ p. p.1) ∙ (e ∙ sym (length-map qs (λ p. p.1)))))
-        ∙ sym (then_assoc first second (compare_keys u v)))))
+    (λ e. (λ i. compare_keys (append_assoc (all (map key (firsts ps))) (all (map key (seconds ps))) u i) (append_assoc (all (map key (firsts qs))) (all (map key (seconds qs))) v i))
+    ∙ (same_long (firsts ps) (firsts qs) (all (map key (seconds ps)) ++ u) (all (map key (seconds qs)) ++ v) (keys_each ps each) (keys_of_map ps hs) (keys_of_map qs ks) (length-map ps (λ p. p.0) ∙ (e ∙ sym (length-map qs (λ p. p.0))))
+    ∙ (ap (ordering_then first) (same_long (seconds ps) (seconds qs) u v (values_each ps each) (values_of_map ps hs) (values_of_map qs ks) (length-map ps (λ p. p.1) ∙ (e ∙ sym (length-map qs (λ p. p.1)))))
+    ∙ sym (then_assoc first second (compare_keys u v)))))
     ∙ (λ i. ordering_then (ordering_then (nat_cmp (length ps) (length qs)) (sym (pairs_as_parts ps qs) i)) (compare_keys u v))
     ∙ sym (ap (λ o. ordering_then o (compare_keys u v)) (alike-Map ps qs)))
 
