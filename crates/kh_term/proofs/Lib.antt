@@ -2,3 +2,4 @@ pub mod Bounds
 pub mod Lengths
 pub mod Paths
 pub mod Same
+pub mod Spelling

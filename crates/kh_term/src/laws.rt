@@ -1,5 +1,5 @@
 //! The laws of terms: what a clause states of every term. The functions have no code.
-ghost use Rattle.kh_term.specs.Laws.{OrderIsTotal, EqualIsSame, NamesCompareAsTerms, PathsCompareAsTerms, DepthIsAtMostSize, SizeIsAtMostTwicePacked};
+ghost use Rattle.kh_term.specs.Laws.{OrderIsTotal, EqualIsSame, NamesCompareAsTerms, PathsCompareAsTerms, DepthIsAtMostSize, SizeIsAtMostTwicePacked, OnePackedSpelling};
 
 /// The order of terms is a total one.
 pub fn order_is_total()
@@ -29,4 +29,9 @@ pub fn depth_is_at_most_size()
 /// A term's size is at most twice the number of its packed bytes.
 pub fn size_is_at_most_twice_packed()
     ensures { SizeIsAtMostTwicePacked }
+{}
+
+/// Each term has packed bytes of its own, and none are the front of another's.
+pub fn one_packed_spelling()
+    ensures { OnePackedSpelling }
 {}

@@ -21,8 +21,8 @@ pub use bytes::{Atom, Bytes};
 pub use comparing::compare;
 pub use depths::depth;
 pub use laws::{
-    depth_is_at_most_size, equal_is_same, names_compare_as_terms, order_is_total,
-    paths_compare_as_terms, size_is_at_most_twice_packed,
+    depth_is_at_most_size, equal_is_same, names_compare_as_terms, one_packed_spelling,
+    order_is_total, paths_compare_as_terms, size_is_at_most_twice_packed,
 };
 pub use make::{atom, bin, int, list, map_of_one, nil, path_term, term_of_name, tuple};
 pub use memory::NoMemory;
