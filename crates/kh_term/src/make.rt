@@ -1,7 +1,7 @@
 //! Making terms of their parts.
 ghost use Rattle.std.specs.Prelude.{◌≡◌, ◌≤◌, ◌≢◌, [], ◌∷◌, ◌++◌, length, IfOk, OnOk, OnErr};
 ghost use Rattle.kh_term.specs.declared.tree.TermTree.TheVariants as tree;
-ghost use Rattle.kh_term.specs.Make.{list_of, name_tree, path_tree};
+ghost use Rattle.kh_term.specs.Make.{list_of, list_with_tail, name_tree, path_tree};
 
 use crate::bytes::{Atom, Bytes};
 use crate::memory::NoMemory;
@@ -102,6 +102,57 @@ pub fn list(alloc: Global, parts: Terms) -> Result<Term, NoMemory>
     Ok(Term {
         node: TermTree::List(nodes, tail),
     })
+}
+
+/// The list of these terms and a tail, which is a list itself or not; the tail alone where there are no terms.
+#[tactic(auto, using(crate::specs::Lemmas::Fits::terms))]
+pub fn list_with_tail(alloc: Global, parts: Terms, tail: Term) -> Result<Term, NoMemory>
+    ensures { IfOk result (λ t. t.node ≡ list_with_tail parts.nodes tail.node) }
+{
+    let Terms { mut nodes } = parts;
+    if nodes.is_empty() {
+        return Ok(tail);
+    }
+    let Term { node } = tail;
+    match node {
+        TermTree::List(more, tail) => {
+            nodes.append(more)?;
+            Ok(Term {
+                node: TermTree::List(nodes, tail),
+            })
+        }
+        node => {
+            let tail = Boxed::new(alloc, node)?;
+            Ok(Term {
+                node: TermTree::List(nodes, tail),
+            })
+        }
+    }
+}
+
+/// The map of these pairs.
+#[tactic(auto, using(crate::specs::Lemmas::Fits::terms))]
+pub fn map(pairs: Pairs) -> Term
+    ensures { result.node ≡ tree.Map pairs.nodes }
+{
+    let Pairs { nodes } = pairs;
+    Term {
+        node: TermTree::Map(nodes),
+    }
+}
+
+/// The function of this origin with its captured values.
+#[tactic(auto, using(crate::specs::Lemmas::Fits::terms))]
+pub fn closure(origin: Origin, env: Terms) -> Term
+    requires { length env.nodes ≤ origin.arity }
+    ensures { result.node ≡ tree.Closure origin env.nodes }
+{
+    let _module = origin.module.as_slice();
+    let _name = origin.name.as_slice();
+    let Terms { nodes } = env;
+    Term {
+        node: TermTree::Closure(origin, nodes),
+    }
 }
 
 #[tactic(auto, using(crate::specs::Lemmas::Fits::terms))]

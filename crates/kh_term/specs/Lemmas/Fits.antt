@@ -3,7 +3,7 @@ use Rattle.std.proofs.Common.{◌&&◌, ◌≡◌, ℕ, ◌+◌, ◌^◌, Bool, 
 use Rattle.std.specs.Int.{w128}
 use Rattle.std.proofs.lemmas.Bool.{and_from}
 use Rattle.std.proofs.lemmas.Int.{to_z-of_z}
-use Rattle.std.proofs.lemmas.List.Sums.{sum-map, sum_by-cons, sum_by_push}
+use Rattle.std.proofs.lemmas.List.Sums.{sum_by-append, sum-map, sum_by-cons, sum_by_push}
 use borrow.Author.Tests.{lt-ltb}
 use Rattle.kh_term.specs.declared.name.Origin.{Origin}
 use Rattle.kh_term.specs.declared.tree.TermTree.{TermTree}
@@ -129,5 +129,18 @@ keys_of_map pairs h = keys_of_pairs pairs (omega (arith, h))
 
 pub values_of_map : (pairs : List (TermTree × TermTree)) → ArePairs pairs → AreTerms (map (λ p. p.1) pairs)
 values_of_map pairs h = values_of_pairs pairs (omega (arith, h))
+
+pub fits_joined : (xs ys : List TermTree) → AreTerms xs → AreTerms ys → AreTerms (xs ++ ys)
+fits_joined xs ys h k = sum-map faults_of (xs ++ ys) ∙ (sum_by-append faults_of xs ys ∙ omega (arith, h, k, sum-map faults_of xs, sum-map faults_of ys))
+
+-- more elements in front of those of a list
+pub fits_in_front : (xs ys : List TermTree) (t : TermTree) → AreTerms xs → IsTerm (tree.List ys t) → IsTerm (tree.List (xs ++ ys) t)
+fits_in_front [] ys t h k = k
+fits_in_front (x ∷ xs) ys t h k =
+    fits-List (x ∷ (xs ++ ys)) t (fits_joined (x ∷ xs) ys h (parts_of_list ys t k)) (tail_of_list ys t k) (some ys (ends_list ys t k))
+  where
+    some : (zs : List TermTree) → IsTrue (is_list_of zs t) → IsTrue (is_list_of (x ∷ (xs ++ zs)) t)
+    some [] e = absurd (cc)
+    some (z ∷ zs) e = e
 
 pub ruleset terms = (fits-Int, fits-Atom, fits-Bin, fits-Nil, fits-Tuple, fits-List, fits-Map, fits-Closure, fits_proper, fits_one_pair, fits_pushed, fits_front, fits_behind, fits_more)
