@@ -1,15 +1,15 @@
 -- How long packed bytes are.
-use Rattle.std.proofs.Common.{◌≡◌, ◌<◌, ◌≤◌, ℕ, zero, suc, ◌+◌, ◌-◌, ◌*◌, ◌^◌, Bool, true, false, nat_lt, if◌then◌else◌, List, [], ◌∷◌, ◌++◌, length, find, unwrap_or, drop, get_or, refl, ap, sym, ◌∙◌, ℤ, arith, add-one, drop-cons}
+use Rattle.std.proofs.Common.{◌≡◌, ◌<◌, ℕ, zero, suc, ◌+◌, List, ◌∷◌, ◌++◌, length, drop, get_or, refl, ap, ℤ, arith, add-one, drop-cons}
 use Rattle.std.specs.List.{flat_map}
-use Rattle.std.specs.Int.{to_be_bytes, w32, bytes_high_first}
+use Rattle.std.specs.Int.{bytes_high_first}
 use Rattle.std.proofs.lemmas.List.{length-append}
 use Rattle.kh_term.specs.declared.name.Origin.{Origin}
 use Rattle.kh_term.specs.declared.tree.TermTree.{TermTree}
 use Rattle.kh_term.specs.declared.tree.TermTree.TheVariants as tree
-use Rattle.kh_term.specs.Packed.{packed_of, all_packed_of, pairs_packed_of, integer_len, integer_bytes, short_text, count_bytes, behind_sign}
-use Rattle.kh_term.proofs.Layers.{packed-Int, packed-Atom, packed-Bin, packed-Nil, packed-List, packed-Tuple, packed-Map, packed-Closure}
+use Rattle.kh_term.specs.Packed.{packed_of, all_packed_of, pairs_packed_of, integer_len, integer_bytes, short_text, count_bytes}
+use Rattle.kh_term.specs.Lemmas.Layers.{packed-Int, packed-Atom, packed-Bin, packed-Nil, packed-List, packed-Tuple, packed-Map, packed-Closure}
 
-length-high_first : (k n : ℕ) → length (bytes_high_first k n) ≡ k
+pub length-high_first : (k n : ℕ) → length (bytes_high_first k n) ≡ k
 length-high_first zero n = refl
 length-high_first (suc k) n = ap suc (length-high_first k n)
 

@@ -1,3 +1,5 @@
-pub mod Fits
-pub mod Layers
+pub mod Bounds
 pub mod Lengths
+pub mod Paths
+pub mod Same
+pub mod Spelling

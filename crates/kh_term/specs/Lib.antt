@@ -1,3 +1,6 @@
+pub mod Laws
+pub mod Lemmas
+pub mod Lookup
 pub mod Make
 pub mod Name
 pub mod Order

@@ -7,6 +7,7 @@ use Rattle.std.specs.Cmp.Lexicographic.{slice_cmp, nat_list_cmp_total, lists_tot
 use Rattle.std.specs.List.{list_all}
 use Rattle.std.specs.Str.{bytes_eq}
 use Rattle.kh_term.specs.declared.name.Name.{Name}
+use Rattle.kh_term.specs.declared.name.Origin.{Origin}
 use Rattle.kh_term.specs.declared.name.Name.TheVariants as name
 
 -- atoms come before binaries
@@ -48,3 +49,14 @@ is_name (name.Bin bytes) = has_name_length bytes
 -- a path: at most 32 names
 abbrev pub is_path : List Name → Bool
 is_path names = nat_le (length names) 32 && list_all is_name names
+
+-- by module, name and arity
+abbrev pub origin_cmp : Origin → Origin → Ordering
+origin_cmp =
+    then_cmp (on (λ o. o.module) (slice_cmp nat_cmp)) (then_cmp (on (λ o. o.name) (slice_cmp nat_cmp)) (on (λ o. o.arity) nat_cmp))
+
+-- the order of origins is a total one
+pub origin_total : IsTotalOrder origin_cmp
+origin_total =
+    then_total (on_total (λ o. o.module) nat_list_cmp_total)
+    (then_total (on_total (λ o. o.name) nat_list_cmp_total) (on_total (λ o. o.arity) nat_cmp_total))

@@ -8,7 +8,7 @@ use Rattle.kh_term.specs.declared.tree.TermTree.{TermTree, out-TermTree}
 use Rattle.kh_term.specs.declared.tree.TermTree.TheOpen.{TermTree-F}
 use Rattle.kh_term.specs.declared.tree.TermTree.TheOpen as layer
 use Rattle.kh_term.specs.declared.tree.TermTree.TheFolds.{para-TermTree}
-use Rattle.kh_term.specs.declared.name.Origin.{Origin}
+use Rattle.kh_term.specs.Name.{origin_cmp}
 
 -- The kinds in their order: integers, atoms, closures, tuples, maps, nil, lists, binaries.
 abbrev pub rank_of : {A : Type 0} → TermTree-F A → ℕ
@@ -20,12 +20,6 @@ rank_of (layer.Map pairs) = 4
 rank_of layer.Nil = 5
 rank_of (layer.List parts tail) = 6
 rank_of (layer.Bin bytes) = 7
-
--- by module, name and arity
-abbrev pub origin_cmp : Origin → Origin → Ordering
-origin_cmp a b =
-    ordering_then (slice_cmp nat_cmp a.module b.module)
-    (ordering_then (slice_cmp nat_cmp a.name b.name) (nat_cmp a.arity b.arity))
 
 -- A term, and how it compares with another.
 abbrev pub Compared : Type 0
@@ -70,3 +64,19 @@ compare_layers x y =
 -- how two terms compare
 abbrev pub term_cmp : TermTree → TermTree → Ordering
 term_cmp = para-TermTree (TermTree → Ordering) compare_layers
+
+-- a term beside how it compares
+abbrev pub compared : TermTree → Compared
+compared t = (t, term_cmp t)
+
+-- part by part, as far as both lists go
+abbrev pub compare_shared : List Compared → List TermTree → Ordering
+compare_shared [] ys = Equal
+compare_shared (x ∷ xs) [] = Equal
+compare_shared (x ∷ xs) (y ∷ ys) = ordering_then (x.1 y) (compare_shared xs ys)
+
+-- the pairs of two maps: their keys in order, then their values in the order of their keys
+abbrev pub compare_pairs : List (TermTree × TermTree) → List (TermTree × TermTree) → Ordering
+compare_pairs ps qs =
+    ordering_then (compare_parts (map (λ p. compared p.0) ps) (map (λ q. q.0) qs))
+    (compare_parts (map (λ p. compared p.1) ps) (map (λ q. q.1) qs))

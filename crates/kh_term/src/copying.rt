@@ -3,7 +3,7 @@ ghost use Rattle.std.specs.Prelude.{◌≡◌, IfOk};
 
 use crate::memory::NoMemory;
 use crate::name::Origin;
-use crate::term::{Term, Terms, Pairs};
+use crate::term::{Pairs, Term, Terms};
 use crate::tree::{TermTree, TreePairs, Trees};
 use sqlite_items::{Boxed, Items};
 use std::alloc::Global;

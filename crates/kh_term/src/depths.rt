@@ -14,7 +14,7 @@ pub fn depth(term: &Term) -> u32
     tree_depth(&term.node)
 }
 
-#[tactic(auto, using(crate::proofs::Layers::depths))]
+#[tactic(auto, using(crate::specs::Lemmas::Layers::depths))]
 fn is_nil(tree: &TermTree) -> bool
     ensures { result ≡ is_nil (out-TermTree tree.now) }
 {
@@ -31,7 +31,7 @@ fn is_nil(tree: &TermTree) -> bool
 }
 
 #[cycle(depth)]
-#[tactic(auto, using(crate::proofs::Layers::depths))]
+#[tactic(auto, using(crate::specs::Lemmas::Layers::depths))]
 fn tree_depth(tree: &TermTree) -> u32
     requires { depth_of tree.now < 2 ^ 32 }
     ensures { result ≡ depth_of tree.now }
@@ -42,7 +42,11 @@ fn tree_depth(tree: &TermTree) -> u32
         TermTree::Bin(_) => 0,
         TermTree::Nil => 1,
         TermTree::List(parts, tail) => {
-            let behind = if is_nil(tail.get()) { 0 } else { tree_depth(tail.get()) };
+            let behind = if is_nil(tail.get()) {
+                0
+            } else {
+                tree_depth(tail.get())
+            };
             1 + deepest(parts.as_slice()).max(behind)
         }
         TermTree::Tuple(parts) => 1 + deepest(parts.as_slice()),
@@ -52,7 +56,7 @@ fn tree_depth(tree: &TermTree) -> u32
 }
 
 #[cycle(depth)]
-#[tactic(auto, using(crate::proofs::Layers::depths))]
+#[tactic(auto, using(crate::specs::Lemmas::Layers::depths))]
 fn deepest(trees: &[TermTree]) -> u32
     requires { greatest (map depth_of trees.now) < 2 ^ 32 }
     ensures { result ≡ greatest (map depth_of trees.now) }
@@ -65,7 +69,7 @@ fn deepest(trees: &[TermTree]) -> u32
 }
 
 #[cycle(depth)]
-#[tactic(auto, using(crate::proofs::Layers::depths))]
+#[tactic(auto, using(crate::specs::Lemmas::Layers::depths))]
 fn deepest_pair(pairs: &[(TermTree, TermTree)]) -> u32
     requires { greatest (map (λ p. max (depth_of p.0) (depth_of p.1)) pairs.now) < 2 ^ 32 }
     ensures { result ≡ greatest (map (λ p. max (depth_of p.0) (depth_of p.1)) pairs.now) }

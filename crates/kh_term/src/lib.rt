@@ -2,11 +2,14 @@
 #![tactic(auto)]
 
 mod bytes;
+mod comparing;
 mod copying;
 mod depths;
+mod laws;
 mod make;
 mod memory;
 mod name;
+mod ordered;
 mod packed_lens;
 mod path;
 mod sizes;
@@ -15,8 +18,13 @@ mod tree;
 mod widths;
 
 pub use bytes::{Atom, Bytes};
+pub use comparing::compare;
 pub use depths::depth;
-pub use make::{atom, bin, int, list, map_of_one, nil, path_term, term_of_name, tuple};
+pub use laws::{
+    depth_is_at_most_size, equal_is_same, names_compare_as_terms, one_packed_spelling,
+    order_is_total, paths_compare_as_terms, size_is_at_most_twice_packed,
+};
+pub use make::{atom, bin, closure, int, list, list_with_tail, map, map_of_one, nil, path_term, term_of_name, tuple};
 pub use memory::NoMemory;
 pub use name::{Name, Origin};
 pub use packed_lens::{integer_len, packed_len};

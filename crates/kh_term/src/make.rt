@@ -1,7 +1,7 @@
 //! Making terms of their parts.
 ghost use Rattle.std.specs.Prelude.{◌≡◌, ◌≤◌, ◌≢◌, [], ◌∷◌, ◌++◌, length, IfOk, OnOk, OnErr};
 ghost use Rattle.kh_term.specs.declared.tree.TermTree.TheVariants as tree;
-ghost use Rattle.kh_term.specs.Make.{list_of, name_tree, path_tree};
+ghost use Rattle.kh_term.specs.Make.{list_of, list_with_tail, name_tree, path_tree};
 
 use crate::bytes::{Atom, Bytes};
 use crate::memory::NoMemory;
@@ -38,7 +38,7 @@ impl Terms {
     }
 }
 
-#[tactic(auto, using(crate::proofs::Fits::terms))]
+#[tactic(auto, using(crate::specs::Lemmas::Fits::terms))]
 pub fn int(number: i128) -> Term
     ensures { result.node ≡ tree.Int number }
 {
@@ -47,7 +47,7 @@ pub fn int(number: i128) -> Term
     }
 }
 
-#[tactic(auto, using(crate::proofs::Fits::terms))]
+#[tactic(auto, using(crate::specs::Lemmas::Fits::terms))]
 pub fn atom(text: Atom) -> Term
     ensures { result.node ≡ tree.Atom text }
 {
@@ -57,7 +57,7 @@ pub fn atom(text: Atom) -> Term
     }
 }
 
-#[tactic(auto, using(crate::proofs::Fits::terms))]
+#[tactic(auto, using(crate::specs::Lemmas::Fits::terms))]
 /// A binary of these bytes.
 pub fn bin(bytes: Bytes) -> Term
     ensures { result.node ≡ tree.Bin bytes }
@@ -68,7 +68,7 @@ pub fn bin(bytes: Bytes) -> Term
     }
 }
 
-#[tactic(auto, using(crate::proofs::Fits::terms))]
+#[tactic(auto, using(crate::specs::Lemmas::Fits::terms))]
 pub fn nil() -> Term
     ensures { result.node ≡ tree.Nil }
 {
@@ -77,7 +77,7 @@ pub fn nil() -> Term
     }
 }
 
-#[tactic(auto, using(crate::proofs::Fits::terms))]
+#[tactic(auto, using(crate::specs::Lemmas::Fits::terms))]
 pub fn tuple(parts: Terms) -> Term
     ensures { result.node ≡ tree.Tuple parts.nodes }
 {
@@ -87,7 +87,7 @@ pub fn tuple(parts: Terms) -> Term
     }
 }
 
-#[tactic(auto, using(crate::proofs::Fits::terms))]
+#[tactic(auto, using(crate::specs::Lemmas::Fits::terms))]
 /// The list of these terms, nil where there are none.
 pub fn list(alloc: Global, parts: Terms) -> Result<Term, NoMemory>
     ensures { IfOk result (λ t. t.node ≡ list_of parts.nodes) }
@@ -104,7 +104,58 @@ pub fn list(alloc: Global, parts: Terms) -> Result<Term, NoMemory>
     })
 }
 
-#[tactic(auto, using(crate::proofs::Fits::terms))]
+/// The list of these terms and a tail, which is a list itself or not; the tail alone where there are no terms.
+#[tactic(auto, using(crate::specs::Lemmas::Fits::terms))]
+pub fn list_with_tail(alloc: Global, parts: Terms, tail: Term) -> Result<Term, NoMemory>
+    ensures { IfOk result (λ t. t.node ≡ list_with_tail parts.nodes tail.node) }
+{
+    let Terms { mut nodes } = parts;
+    if nodes.is_empty() {
+        return Ok(tail);
+    }
+    let Term { node } = tail;
+    match node {
+        TermTree::List(more, tail) => {
+            nodes.append(more)?;
+            Ok(Term {
+                node: TermTree::List(nodes, tail),
+            })
+        }
+        node => {
+            let tail = Boxed::new(alloc, node)?;
+            Ok(Term {
+                node: TermTree::List(nodes, tail),
+            })
+        }
+    }
+}
+
+/// The map of these pairs.
+#[tactic(auto, using(crate::specs::Lemmas::Fits::terms))]
+pub fn map(pairs: Pairs) -> Term
+    ensures { result.node ≡ tree.Map pairs.nodes }
+{
+    let Pairs { nodes } = pairs;
+    Term {
+        node: TermTree::Map(nodes),
+    }
+}
+
+/// The function of this origin with its captured values.
+#[tactic(auto, using(crate::specs::Lemmas::Fits::terms))]
+pub fn closure(origin: Origin, env: Terms) -> Term
+    requires { length env.nodes ≤ origin.arity }
+    ensures { result.node ≡ tree.Closure origin env.nodes }
+{
+    let _module = origin.module.as_slice();
+    let _name = origin.name.as_slice();
+    let Terms { nodes } = env;
+    Term {
+        node: TermTree::Closure(origin, nodes),
+    }
+}
+
+#[tactic(auto, using(crate::specs::Lemmas::Fits::terms))]
 /// The map with this one key.
 pub fn map_of_one(alloc: Global, key: Term, value: Term) -> Result<Term, NoMemory>
     ensures { IfOk result (λ t. t.node ≡ tree.Map ((key.node, value.node) ∷ [])) }

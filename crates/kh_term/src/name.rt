@@ -2,7 +2,7 @@ ghost use Rattle.std.specs.Prelude.{◌≡◌, ◌||◌, codes, IfOk, Some, refl
 ghost use Rattle.std.specs.Ordering.{eq_by_cmp};
 ghost use Rattle.std.specs.Cmp.{partial_equiv_from_equiv, eq_by_cmp_equiv, po};
 ghost use Rattle.std.specs.Str.{bytes_eq};
-ghost use Rattle.kh_term.specs.Name.{is_name, has_name_length, name_cmp, name_total};
+ghost use Rattle.kh_term.specs.Name.{is_name, has_name_length, name_cmp, name_total, origin_cmp, origin_total};
 
 use crate::bytes::{Atom, Bytes};
 use crate::memory::NoMemory;
@@ -116,6 +116,51 @@ impl Ord for Name {
             (Name::Atom(_), Name::Bin(_)) => Ordering::Less,
             (Name::Bin(_), Name::Atom(_)) => Ordering::Greater,
             (Name::Bin(bytes), Name::Bin(other)) => bytes.cmp(other),
+        }
+    }
+}
+
+impl PartialEq for Origin {
+    ghost eq = { eq_by_cmp origin_cmp };
+
+    ghost laws = { partial_equiv_from_equiv (eq_by_cmp_equiv origin_total) };
+
+    fn eq(&self, other: &Self) -> bool {
+        self.cmp(other).is_eq()
+    }
+}
+
+impl Eq for Origin {
+    ghost laws = { eq_by_cmp_equiv origin_total };
+}
+
+impl PartialOrd for Origin {
+    ghost partial_cmp = { λ x y. Some (origin_cmp x y) };
+
+    ghost laws = { po origin_total (λ x y. refl) };
+
+    fn partial_cmp(&self, other: &Self) -> Option<Ordering> {
+        Some(self.cmp(other))
+    }
+}
+
+/// By module, name and arity.
+impl Ord for Origin {
+    ghost cmp = { origin_cmp };
+
+    ghost total = { origin_total };
+
+    ghost matches_partial_cmp = { λ x y. refl };
+
+    ghost matches_eq = { λ x y. refl };
+
+    fn cmp(&self, other: &Self) -> Ordering {
+        match self.module.cmp(&other.module) {
+            Ordering::Equal => match self.name.cmp(&other.name) {
+                Ordering::Equal => self.arity.cmp(&other.arity),
+                order => order,
+            },
+            order => order,
         }
     }
 }

@@ -26,7 +26,11 @@ pub fn integer_len(number: i128) -> u32
 fn behind_sign(number: i128) -> u128
     ensures { result ≡ behind_sign number }
 {
-    if number < 0 { (-(number + 1)) as u128 } else { number as u128 }
+    if number < 0 {
+        (-(number + 1)) as u128
+    } else {
+        number as u128
+    }
 }
 
 fn least_len(behind: u128) -> u32

@@ -14,7 +14,7 @@ pub fn size(term: &Term) -> u64
 }
 
 #[cycle(size)]
-#[tactic(auto, using(crate::proofs::Layers::sizes))]
+#[tactic(auto, using(crate::specs::Lemmas::Layers::sizes))]
 fn tree_size(tree: &TermTree) -> u64
     requires { size_of tree.now < 2 ^ 64 }
     ensures { result ≡ size_of tree.now }
@@ -24,7 +24,9 @@ fn tree_size(tree: &TermTree) -> u64
         TermTree::Atom(_) => 1,
         TermTree::Bin(bytes) => 1 + (bytes.as_slice().len() as u64 + 7) / 8,
         TermTree::Nil => 1,
-        TermTree::List(parts, tail) => parts.len() as u64 + sizes(parts.as_slice()) + tree_size(tail.get()),
+        TermTree::List(parts, tail) => parts.len() as u64
+            + sizes(parts.as_slice())
+            + tree_size(tail.get()),
         TermTree::Tuple(parts) => 1 + sizes(parts.as_slice()),
         TermTree::Map(pairs) => 1 + pair_sizes(pairs.as_slice()),
         TermTree::Closure(_, env) => 1 + sizes(env.as_slice()),
@@ -32,7 +34,7 @@ fn tree_size(tree: &TermTree) -> u64
 }
 
 #[cycle(size)]
-#[tactic(auto, using(crate::proofs::Layers::sizes))]
+#[tactic(auto, using(crate::specs::Lemmas::Layers::sizes))]
 fn sizes(trees: &[TermTree]) -> u64
     requires { sizes_of trees.now < 2 ^ 64 }
     ensures { result ≡ sizes_of trees.now }
@@ -45,7 +47,7 @@ fn sizes(trees: &[TermTree]) -> u64
 }
 
 #[cycle(size)]
-#[tactic(auto, using(crate::proofs::Layers::sizes))]
+#[tactic(auto, using(crate::specs::Lemmas::Layers::sizes))]
 fn pair_sizes(pairs: &[(TermTree, TermTree)]) -> u64
     requires { pair_sizes_of pairs.now < 2 ^ 64 }
     ensures { result ≡ pair_sizes_of pairs.now }

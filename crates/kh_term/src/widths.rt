@@ -13,7 +13,7 @@ pub fn widest(term: &Term) -> usize
 }
 
 #[cycle(width)]
-#[tactic(auto, using(crate::proofs::Layers::widths))]
+#[tactic(auto, using(crate::specs::Lemmas::Layers::widths))]
 fn tree_width(tree: &TermTree) -> usize
     ensures { result ≡ width_of tree.now }
 {
@@ -33,7 +33,7 @@ fn tree_width(tree: &TermTree) -> usize
 }
 
 #[cycle(width)]
-#[tactic(auto, using(crate::proofs::Layers::widths))]
+#[tactic(auto, using(crate::specs::Lemmas::Layers::widths))]
 fn widest_part(trees: &[TermTree]) -> usize
     ensures { result ≡ greatest (map width_of trees.now) }
 {
@@ -45,7 +45,7 @@ fn widest_part(trees: &[TermTree]) -> usize
 }
 
 #[cycle(width)]
-#[tactic(auto, using(crate::proofs::Layers::widths))]
+#[tactic(auto, using(crate::specs::Lemmas::Layers::widths))]
 fn widest_of_pairs(pairs: &[(TermTree, TermTree)]) -> usize
     ensures { result ≡ greatest (map (λ p. max (width_of p.0) (width_of p.1)) pairs.now) }
 {

@@ -1,5 +1,4 @@
-use Rattle.std.proofs.Common.{◌≡◌, ◌<◌, ◌≤◌, ◌-◌, ◌*◌, ◌%◌, ◌^◌, ◌+◌, ℕ, suc, Bool, true, false, cond, nat_lt, nat_le, Some, find, unwrap_or, List, [], ◌∷◌, length, get_or, drop, ap, sym, subst, refl, ◌∙◌, arith, add-one, drop-cons}
-use Rattle.std.specs.List.{list_all}
+use Rattle.std.proofs.Common.{◌≡◌, ◌<◌, ◌≤◌, ◌-◌, ◌*◌, ◌%◌, ◌^◌, ℕ, suc, Bool, true, false, cond, nat_lt, nat_le, Some, find, unwrap_or, List, [], ◌∷◌, length, get_or, drop, ap, sym, refl, ◌∙◌, arith, add-one, drop-cons}
 use Rattle.std.proofs.Math.Nat.{mod-eq_of_lt}
 use Rattle.std.proofs.Math.Pow.{pow-lt}
 use Rattle.std.proofs.lemmas.Bool.{leb-true}

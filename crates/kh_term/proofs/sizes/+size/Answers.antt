@@ -1,8 +1,8 @@
-use Rattle.std.proofs.Common.{rules, ◌≡◌, ◌<◌, ◌^◌, ℕ, ◌+◌, List, length, get_or, drop, ap, arith}
+use Rattle.std.proofs.Common.{rules, ◌≡◌, ◌<◌, ℕ, ◌+◌, List, length, get_or, drop, ap, arith}
 use Rattle.kh_term.specs.declared.tree.TermTree.{TermTree}
 use Rattle.kh_term.specs.declared.tree.TermTree.TheViews.{the_lemmas}
-use Rattle.kh_term.specs.Size.{size_of, sizes_of, pair_sizes_of}
-use Rattle.kh_term.proofs.Layers.{pair_sizes-drop}
+use Rattle.kh_term.specs.Size.{size_of, pair_sizes_of}
+use Rattle.kh_term.specs.Lemmas.Layers.{pair_sizes-drop}
 use Rattle.kh_term.proofs.sizes.+size.Goals as goal
 
 -- a value is no larger than what is left

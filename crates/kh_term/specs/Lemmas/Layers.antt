@@ -21,7 +21,7 @@ results f [] = refl
 results f (x ∷ xs) = ap (λ ys. f x ∷ ys) (results f xs)
 
 -- two maps, one after the other
-joined : {A B C : Type 0} (f : A → B) (g : B → C) (xs : List A) → map g (map f xs) ≡ map (λ x. g (f x)) xs
+pub joined : {A B C : Type 0} (f : A → B) (g : B → C) (xs : List A) → map g (map f xs) ≡ map (λ x. g (f x)) xs
 joined f g [] = refl
 joined f g (x ∷ xs) = ap (λ ys. g (f x) ∷ ys) (joined f g xs)
 

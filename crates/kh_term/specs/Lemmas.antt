@@ -1,0 +1,7 @@
+-- Lemmas on the definitions. The laws of the comparisons cite them, so they stand here and not among the proofs.
+pub mod Fits
+pub mod Induction
+pub mod Keys
+pub mod Layers
+pub mod Orders
+pub mod Total
