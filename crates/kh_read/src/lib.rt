@@ -10,4 +10,4 @@ mod scan;
 
 pub use error::ReadError;
 pub use form::Form;
-pub use read::{later_bytes_change_nothing, read_form};
+pub use read::{at_most_one_form, later_bytes_change_nothing, read_form};
