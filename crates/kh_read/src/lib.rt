@@ -7,6 +7,8 @@ mod number;
 mod path;
 mod read;
 mod scan;
+#[cfg(test)]
+mod tests;
 
 pub use error::ReadError;
 pub use form::Form;
