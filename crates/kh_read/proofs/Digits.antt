@@ -52,7 +52,7 @@ pub digits_parse : (text : List ℕ) → AreDigits text
     → IsNumeral 10 (without_leading_plus text) × (digits_value 10 (without_leading_plus text) < 2 ^ 64)
 digits_parse text h = rw (no_plus text h) ((omega (arith, h.some), all_digits text h), omega (arith, digits_below text h))
 
-all_digits-list_all : (text : List ℕ) → all_ascii_digits text ≡ list_all is_ascii_digit text
+pub all_digits-list_all : (text : List ℕ) → all_ascii_digits text ≡ list_all is_ascii_digit text
 all_digits-list_all [] = refl
 all_digits-list_all (b ∷ text) = ap (λ t. is_ascii_digit b && t) (all_digits-list_all text)
 

@@ -123,7 +123,7 @@ comma_grows [] more uncut = absurd (uncut refl)
 comma_grows (byte ∷ bytes) more uncut = comma_case bytes more (eqb byte 44) (eqb byte 93)
 
 -- what stands behind a name
-behind_name : (room : ℕ) → Name → Bool → List ℕ → Read (List Name)
+unfoldable pub behind_name : (room : ℕ) → Name → Bool → List ℕ → Read (List Name)
 behind_name room first comma bytes =
     cond comma (names_at room bytes >>= λ others. Ok (first ∷ others.0, others.1)) (Ok (first ∷ [], bytes))
 
@@ -145,10 +145,10 @@ unfolding digits_at
 digits_grows = then_grows (front_at is_ascii_digit 18) (λ text bytes. cond (eqb (length text) 0) (Err Fault) (Ok (text, bytes))) (front_grows is_ascii_digit 18) (λ text. tested_grows (eqb (length text) 0) text)
 
 -- an integer behind a minus sign, and one without
-abbrev negative_at : List ℕ → Read ℤ
+abbrev pub negative_at : List ℕ → Read ℤ
 negative_at bytes = digits_at bytes >>= λ digits. Ok (neg_ℤ (pos (digits_value 10 digits.0)), digits.1)
 
-abbrev positive_at : List ℕ → Read ℤ
+abbrev pub positive_at : List ℕ → Read ℤ
 positive_at bytes = digits_at bytes >>= λ digits. Ok (pos (digits_value 10 digits.0), digits.1)
 
 negative_grows : Grows negative_at

@@ -8,3 +8,8 @@ pub mod Paths
 pub mod FormRead
 pub mod Grows
 pub mod Place
+pub mod Again
+pub mod Mends
+pub mod CutParts
+pub mod CutForms
+pub mod Stands

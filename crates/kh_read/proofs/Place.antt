@@ -9,7 +9,7 @@ use Rattle.kh_read.proofs.FormRead.{IsFormRead, form_read}
 use Rattle.kh_read.specs.Reading.{form_at}
 
 -- a form isn't empty
-form_some : (text : List ℕ) (f : Form) → IsForm text f → 0 < length text
+pub form_some : (text : List ℕ) (f : Form) → IsForm text f → 0 < length text
 form_some text (form.Put path number) h = rw h.3 (omega arith)
 form_some text (form.Get path) h = rw h.1 (omega arith)
 

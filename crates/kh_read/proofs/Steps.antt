@@ -12,7 +12,7 @@ pub bind_ok : {A B : Type 0} (read : Read A) (next : A × List ℕ → Read B) (
 bind_ok (Ok x) next y e = (x, refl, e)
 bind_ok (Err stop) next y e = absurd cc
 
-abbrev done : {A : Type 0} → A × List ℕ → Read A
+abbrev pub done : {A : Type 0} → A × List ℕ → Read A
 done x = Ok x
 
 pub ok_is : {A : Type 0} (x y : A × List ℕ) → done x ≡ done y → x ≡ y

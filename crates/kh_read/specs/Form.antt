@@ -44,3 +44,12 @@ IsForm text (form.Get path) = IsTrue (is_plain_path path) × (text ≡ codes "{g
 -- the bytes begin a form: with more bytes behind them they are one
 abbrev pub BeginsForm : List ℕ → Type 0
 BeginsForm bytes = (more : List ℕ) × (f : Form) × (more ≢ []) × IsForm (bytes ++ more) f
+
+-- However these bytes go on, no form stands at their front.
+abbrev pub NoFormComes : List ℕ → Type 0
+NoFormComes bytes = (more text rest : List ℕ) (f : Form) → IsForm text f → bytes ++ more ≢ text ++ rest
+
+-- At most one form stands at the front of bytes: no form is the front of a longer one, and no text is two forms.
+abbrev pub AtMostOneForm : Type 0
+AtMostOneForm =
+    (text other rest later : List ℕ) (f g : Form) → IsForm text f → IsForm other g → text ++ rest ≡ other ++ later → (text ≡ other) × (f ≡ g)

@@ -1,5 +1,5 @@
 -- What stands at the front of bytes, from left to right.
-use Rattle.std.specs.Prelude.{◌≡◌, ◌≢◌, ◌<◌, ◌≤◌, ◌++◌, Option, Some, None, ℕ, zero, suc, Bool, true, false, ◌==◌, nat_lt, not, codes, ℤ, pos, neg_ℤ, List, [], ◌∷◌, length, take, drop, Result, Ok, Err, if◌then◌else◌}
+use Rattle.std.specs.Prelude.{◌≡◌, ◌≢◌, ◌<◌, ◌≤◌, ◌++◌, Option, Some, None, ℕ, zero, suc, Bool, true, false, ◌==◌, nat_lt, not, codes, ℤ, pos, neg_ℤ, List, [], ◌∷◌, length, take, drop, Result, Ok, Err, ◌⊎◌, if◌then◌else◌}
 use Rattle.std.specs.Char.{is_ascii_digit, is_ascii_lowercase}
 use Rattle.std.specs.List.{prefix_len}
 use Rattle.std.specs.Str.Parse.{starts_with_minus, digits_value}
@@ -106,6 +106,10 @@ Fails errors.Syntax read = read ≡ Err Fault
 abbrev pub Gives : {X Y : Type 0} → (X → Y) → Result X ReadError → Result Y Stop → Type 0
 Gives view (Ok x) read = read ≡ Ok (view x)
 Gives view (Err e) read = Fails e read
+
+-- This was answered, unless memory ran out.
+abbrev pub IsUnlessMemory : {X : Type 0} → Result X ReadError → X → Type 0
+IsUnlessMemory result x = (result ≡ Ok x) ⊎ (result ≡ Err errors.NoMemory)
 
 -- What reading from a place on gives: nothing exactly at the end; a form with the place behind it; or why there is none.
 abbrev pub ReadsForm : List ℕ → ℕ → Result (Option (Form × ℕ)) ReadError → Type 0

@@ -7,7 +7,9 @@ mod number;
 mod path;
 mod read;
 mod scan;
+#[cfg(test)]
+mod tests;
 
 pub use error::ReadError;
 pub use form::Form;
-pub use read::{a_form_takes_bytes, later_bytes_change_nothing, read_form};
+pub use read::{a_form_takes_bytes, at_most_one_form, later_bytes_change_nothing, read_form};

@@ -1,8 +1,9 @@
 //! Whole forms.
-ghost use Rattle.std.specs.Prelude.{◌≡◌, ◌<◌, ◌≤◌, ℕ, List, Ok, length, IfOk, IfSome, slice_range};
+ghost use Rattle.std.specs.Prelude.{◌≡◌, ◌<◌, ◌≤◌, ◌+◌, ◌↔◌, ℕ, List, ◌++◌, length, drop, Some, None, Ok, Err, IfOk, IfSome, slice_range};
+ghost use Rattle.kh_read.specs.declared.error.ReadError.TheVariants.{Incomplete, Syntax};
 ghost use Rattle.kh_read.specs.declared.form.Form.{Form};
-ghost use Rattle.kh_read.specs.Form.{IsForm};
-ghost use Rattle.kh_read.specs.Reading.{Gives, ReadsForm, names_at, put_at, get_at, by_keyword, form_at, Grows};
+ghost use Rattle.kh_read.specs.Form.{IsForm, BeginsForm, NoFormComes, AtMostOneForm};
+ghost use Rattle.kh_read.specs.Reading.{Gives, ReadsForm, IsUnlessMemory, names_at, put_at, get_at, by_keyword, form_at, Grows};
 
 use crate::error::ReadError;
 use crate::form::Form;
@@ -69,7 +70,11 @@ fn form(alloc: Global, bytes: &[u8]) -> Result<(Form, &[u8]), ReadError>
 pub fn read_form(alloc: Global, bytes: &[u8], at: usize) -> Result<Option<(Form, usize)>, ReadError>
     requires { at ≤ length bytes.now }
     ensures exact { ReadsForm bytes.now at result }
+    ensures none { (result ≡ Ok None) ↔ (at ≡ length bytes.now) }
     ensures found { IfOk result (λ read. IfSome read (λ x. IsForm (slice_range bytes.now at x.1) x.0)) }
+    ensures only { (text rest : List ℕ) (f : Form) → IsForm text f → drop at bytes.now ≡ text ++ rest → IsUnlessMemory result (Some (f, at + length text)) }
+    ensures incomplete { result ≡ Err Incomplete → (at < length bytes.now) × BeginsForm (drop at bytes.now) }
+    ensures syntax { result ≡ Err Syntax → NoFormComes (drop at bytes.now) }
 {
     let (_, left) = bytes.split_at(at);
     if left.is_empty() {
@@ -87,5 +92,9 @@ pub fn later_bytes_change_nothing()
 /// A form takes at least one byte.
 pub fn a_form_takes_bytes()
     ensures { (bytes : List ℕ) (x : Form × List ℕ) → form_at bytes ≡ Ok x → length x.1 < length bytes }
-{
-}
+{}
+
+/// At most one form stands at the front of bytes, and its text is no other form's.
+pub fn at_most_one_form()
+    ensures { AtMostOneForm }
+{}
