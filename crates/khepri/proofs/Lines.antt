@@ -1,7 +1,7 @@
 -- Answering line after line, as a loop does.
-use Rattle.std.proofs.Common.{◌≡◌, ◌≢◌, ℕ, ◌<◌, ◌≤◌, Bool, true, false, List, [], ◌∷◌, ◌++◌, length, drop, Option, Ok, Err, refl, sym, ap, subst, ◌∙◌, append_assoc, arith}
+use Rattle.std.proofs.Common.{◌≡◌, ◌≢◌, ℕ, ◌<◌, Bool, true, false, List, [], ◌++◌, length, drop, Option, Ok, Err, ap, ◌∙◌, append_assoc, arith}
 use Rattle.std.proofs.lemmas.List.{length-drop}
-use Rattle.kh_io.specs.Told.{Told, Extends, IsFrontOf, Rose}
+use Rattle.kh_io.specs.Told.{Told, Extends, IsFrontOf}
 use Rattle.kh_text_defs.specs.Shown.{shown_line}
 use Rattle.kh_read.specs.declared.form.Form.{Form}
 use Rattle.kh_read.specs.Reading.{Cut, Fault}
@@ -10,7 +10,7 @@ use Rattle.khepri.specs.declared.session.Stop.TheVariants as stop
 use Rattle.khepri.specs.Tree.{Node}
 use Rattle.khepri.specs.Machine.{reply_to, after}
 use Rattle.khepri.specs.Output.{GivesAll}
-use Rattle.khepri.specs.Session.{AtFault, Unfinished, line_at, all_read, cut_short, Session, ends, cut, Serves}
+use Rattle.khepri.specs.Session.{line_at, all_read, Session, ends, cut, Serves}
 use Rattle.khepri.specs.Serving.{AnswerStops, GivesToFault, GivesFront, ServeStops}
 use Rattle.khepri.proofs.Told.{told_then, told_as}
 use Rattle.khepri.proofs.Serving.{serves_on, serves_faulty, serves_cut, serves_begins, serves_front}
@@ -23,17 +23,21 @@ pub one_line : (is_end : Bool) (bytes left rest : List ℕ) (old mid : List Node
     → SoFar is_end bytes left old mid sink now → line_at is_end left ≡ Ok (form, rest) → GivesAll now later (shown_line (reply_to form mid))
     → SoFar is_end bytes rest old (after form mid) sink later
 one_line is_end bytes left rest old mid form sink now later so_far line given =
-    told_then _ _ _ sink now later (λ x y z p q.
-        (p.0 ++ shown_line (reply_to form mid), q ∙ ap (λ (t : List ℕ). t ++ shown_line (reply_to form mid)) p.1 ∙ append_assoc x p.0 (shown_line (reply_to form mid)),
-            serves_on is_end bytes left old mid p.0 form rest p.2 line)) so_far given
+    told_then _ _ _ sink now later (λ x y z p q. (
+      p.0 ++ shown_line (reply_to form mid),
+      q ∙ ap (λ (t : List ℕ). t ++ shown_line (reply_to form mid)) p.1 ∙ append_assoc x p.0 (shown_line (reply_to form mid)),
+      serves_on is_end bytes left old mid p.0 form rest p.2 line,
+    )) so_far given
 
 front_of_line : (is_end : Bool) (bytes left rest : List ℕ) (old mid : List Node) (form : Form) (sink now later : Option (List ℕ))
     → SoFar is_end bytes left old mid sink now → line_at is_end left ≡ Ok (form, rest)
     → Extends now later (λ more. IsFrontOf more (shown_line (reply_to form mid))) → GivesFront is_end bytes old sink later
 front_of_line is_end bytes left rest old mid form sink now later so_far line given =
-    told_then _ _ _ sink now later (λ x y z p q.
-        (p.0 ++ q.0, q.1 ∙ ap (λ (t : List ℕ). t ++ q.0) p.1 ∙ append_assoc x p.0 q.0,
-            serves_front is_end bytes left old mid p.0 form rest q.0 p.2 line q.2)) so_far given
+    told_then _ _ _ sink now later (λ x y z p q. (
+      p.0 ++ q.0,
+      q.1 ∙ ap (λ (t : List ℕ). t ++ q.0) p.1 ∙ append_assoc x p.0 q.0,
+      serves_front is_end bytes left old mid p.0 form rest q.0 p.2 line q.2,
+    )) so_far given
 
 pub no_reply : (is_end : Bool) (bytes left rest : List ℕ) (old mid : List Node) (form : Form) (sink now later : Option (List ℕ)) (s : Stop) (first before faults : ℕ)
     → SoFar is_end bytes left old mid sink now → line_at is_end left ≡ Ok (form, rest)

@@ -59,3 +59,9 @@ pub record NoFaults (reads reads_after writes writes_after : ℕ) : Type 0 where
 abbrev pub TellsEnding : ℕ → (left left_after sink sink_after : Option (List ℕ)) → Type 0
 TellsEnding status left left_after sink sink_after = Told left left_after (λ input rest. Told sink sink_after (λ a b.
     (text : List ℕ) (ending : Ending) → WholeSession input text ending → (status ≡ 6) ⊎ (status ≡ ending_status ending)))
+
+-- Each input has a session, and no two.
+pub record OneSession : Type 0 where
+  pub some : (input : List ℕ) → (text : List ℕ) × (ending : Ending) × WholeSession input text ending
+  pub one : (input text other : List ℕ) (ending last : Ending) → WholeSession input text ending → WholeSession input other last
+      → (text ≡ other) × (ending ≡ last)

@@ -11,10 +11,9 @@ mod top;
 mod tree;
 
 use kh_io::RealHost;
-use std::env;
-use std::io;
 use std::process::ExitCode;
 use std::rt::{Env, Runtime};
+use std::{env, io};
 use top::khepri;
 
 const USAGE: &str = "usage: khepri run | khepri load COUNT";

@@ -2,7 +2,7 @@
 ghost use Rattle.std.specs.Prelude.{◌≡◌, ◌↔◌, false, IsTrue};
 ghost use Rattle.kh_io.specs.Told.{Rose};
 ghost use Rattle.khepri.specs.Words.{are_right};
-ghost use Rattle.khepri.specs.Run.{Ends, NoFaults, TellsEnding};
+ghost use Rattle.khepri.specs.Run.{Ends, NoFaults, OneSession, TellsEnding};
 
 use crate::run::run;
 use kh_io::Host;
@@ -44,3 +44,8 @@ fn are_right(words: &[String]) -> bool
         _ => false,
     }
 }
+
+/// Each script has exactly one session.
+pub fn one_session()
+    ensures { OneSession }
+{}
