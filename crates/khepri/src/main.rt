@@ -5,16 +5,20 @@ mod input;
 mod line;
 mod machine;
 mod output;
+#[cfg(test)]
+mod plain;
 mod run;
 mod session;
+mod sound;
+#[cfg(test)]
+mod tests;
 mod top;
 mod tree;
 
 use kh_io::RealHost;
-use std::env;
-use std::io;
 use std::process::ExitCode;
 use std::rt::{Env, Runtime};
+use std::{env, io};
 use top::khepri;
 
 const USAGE: &str = "usage: khepri run | khepri load COUNT";
