@@ -21,7 +21,8 @@ pub giving_goes_on : (old now new : Option (List ℕ)) (piece rest : List ℕ) (
 giving_goes_on old now new piece rest n giving adds = record {
   front = giving.front ++ take n rest;
   parts = giving.parts ∙ ap (λ (r : List ℕ). giving.front ++ r) (sym (take-append-drop n rest)) ∙ sym (append_assoc giving.front (take n rest) (drop n rest));
-  given = told_then _ _ _ old now new (λ x y z p q. q ∙ ap (λ (t : List ℕ). t ++ take n rest) p ∙ append_assoc x giving.front (take n rest)) giving.given adds }
+  given = told_then _ _ _ old now new (λ x y z p q. q ∙ ap (λ (t : List ℕ). t ++ take n rest) p ∙ append_assoc x giving.front (take n rest)) giving.given adds;
+}
 
 pub giving_ends : (old now : Option (List ℕ)) (piece rest : List ℕ) → IsGiving old now piece rest → rest ≡ [] → GivesAll old now piece
 giving_ends old now piece rest giving none =
@@ -30,10 +31,12 @@ giving_ends old now piece rest giving none =
 pub giving_fails : (old now new : Option (List ℕ)) (piece rest : List ℕ) → IsGiving old now piece rest → MayAdd now new rest
     → Extends old new (λ more. IsFrontOf more piece)
 giving_fails old now new piece rest giving may =
-    told_then _ _ _ old now new (λ x y z p q.
-        (giving.front ++ q.0, q.1 ∙ ap (λ (t : List ℕ). t ++ q.0) p ∙ append_assoc x giving.front q.0,
-            (q.2.0, giving.parts ∙ ap (λ (r : List ℕ). giving.front ++ r) q.2.1 ∙ sym (append_assoc giving.front q.0 q.2.0))))
-        giving.given may
+    told_then _ _ _ old now new (λ x y z p q. (
+      giving.front ++ q.0,
+      q.1 ∙ ap (λ (t : List ℕ). t ++ q.0) p ∙ append_assoc x giving.front q.0,
+      (q.2.0, giving.parts ∙ ap (λ (r : List ℕ). giving.front ++ r) q.2.1 ∙ sym (append_assoc giving.front q.0 q.2.0)),
+    ))
+    giving.given may
 
 -- one call after another leaves what it leaves
 pub kept_then : {A : Type 0} (a b c : Option A) → Kept a b → Kept b c → Kept a c

@@ -23,17 +23,21 @@ pub one_line : (is_end : Bool) (bytes left rest : List ℕ) (old mid : List Node
     → SoFar is_end bytes left old mid sink now → line_at is_end left ≡ Ok (form, rest) → GivesAll now later (shown_line (reply_to form mid))
     → SoFar is_end bytes rest old (after form mid) sink later
 one_line is_end bytes left rest old mid form sink now later so_far line given =
-    told_then _ _ _ sink now later (λ x y z p q.
-        (p.0 ++ shown_line (reply_to form mid), q ∙ ap (λ (t : List ℕ). t ++ shown_line (reply_to form mid)) p.1 ∙ append_assoc x p.0 (shown_line (reply_to form mid)),
-            serves_on is_end bytes left old mid p.0 form rest p.2 line)) so_far given
+    told_then _ _ _ sink now later (λ x y z p q. (
+      p.0 ++ shown_line (reply_to form mid),
+      q ∙ ap (λ (t : List ℕ). t ++ shown_line (reply_to form mid)) p.1 ∙ append_assoc x p.0 (shown_line (reply_to form mid)),
+      serves_on is_end bytes left old mid p.0 form rest p.2 line,
+    )) so_far given
 
 front_of_line : (is_end : Bool) (bytes left rest : List ℕ) (old mid : List Node) (form : Form) (sink now later : Option (List ℕ))
     → SoFar is_end bytes left old mid sink now → line_at is_end left ≡ Ok (form, rest)
     → Extends now later (λ more. IsFrontOf more (shown_line (reply_to form mid))) → GivesFront is_end bytes old sink later
 front_of_line is_end bytes left rest old mid form sink now later so_far line given =
-    told_then _ _ _ sink now later (λ x y z p q.
-        (p.0 ++ q.0, q.1 ∙ ap (λ (t : List ℕ). t ++ q.0) p.1 ∙ append_assoc x p.0 q.0,
-            serves_front is_end bytes left old mid p.0 form rest q.0 p.2 line q.2)) so_far given
+    told_then _ _ _ sink now later (λ x y z p q. (
+      p.0 ++ q.0,
+      q.1 ∙ ap (λ (t : List ℕ). t ++ q.0) p.1 ∙ append_assoc x p.0 q.0,
+      serves_front is_end bytes left old mid p.0 form rest q.0 p.2 line q.2,
+    )) so_far given
 
 pub no_reply : (is_end : Bool) (bytes left rest : List ℕ) (old mid : List Node) (form : Form) (sink now later : Option (List ℕ)) (s : Stop) (first before faults : ℕ)
     → SoFar is_end bytes left old mid sink now → line_at is_end left ≡ Ok (form, rest)

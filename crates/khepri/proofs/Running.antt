@@ -20,29 +20,40 @@ use Rattle.khepri.proofs.Lines.{SoFar}
 
 pub serves_then : (is_end : Bool) (bytes left last : List ℕ) (old mid new : List Node) (text others : List ℕ)
     → Serves false bytes left old mid text → Serves is_end left last mid new others → Serves is_end bytes last old new (text ++ others)
-serves_then is_end bytes left last old mid new text others first second = record { goes_on = λ end more behind ending comes session.
-    subst (λ (t : List ℕ). Session end (bytes ++ more) old t ending) (sym (append_assoc text others behind))
-        (first.goes_on end more (others ++ behind) ending tt (second.goes_on end more behind ending comes session)) }
+serves_then is_end bytes left last old mid new text others first second = record {
+  goes_on = λ end more behind ending comes session.
+      subst (λ (t : List ℕ). Session end (bytes ++ more) old t ending) (sym (append_assoc text others behind))
+      (first.goes_on end more (others ++ behind) ending tt (second.goes_on end more behind ending comes session));
+}
 
 pub ends_then : (is_end : Bool) (bytes left : List ℕ) (old mid : List Node) (text others : List ℕ) (ending : Ending)
     → Serves false bytes left old mid text → EndsServing is_end left mid others ending → EndsServing is_end bytes old (text ++ others) ending
-ends_then is_end bytes left old mid text others ending first second = record { session = λ end more comes.
-    first.goes_on end more others ending tt (second.session end more comes) }
+ends_then is_end bytes left old mid text others ending first second = record {
+  session = λ end more comes.
+      first.goes_on end more others ending tt (second.session end more comes);
+}
 
 pub begins_then : (is_end : Bool) (bytes left : List ℕ) (old mid : List Node) (text given : List ℕ)
     → Serves false bytes left old mid text → BeginsServing is_end left mid given → BeginsServing is_end bytes old (text ++ given)
-begins_then is_end bytes left old mid text given first second = record { session = λ end more comes.
-    let others = second.session end more comes in
-    (text ++ others.0, others.1, first.goes_on end more others.0 others.1 tt others.2,
-        (others.3.0, ap (λ (t : List ℕ). text ++ t) others.3.1 ∙ sym (append_assoc text given others.3.0))) }
+begins_then is_end bytes left old mid text given first second = record {
+  session = λ end more comes.
+      let others = second.session end more comes in (
+        text ++ others.0,
+        others.1,
+        first.goes_on end more others.0 others.1 tt others.2,
+        (others.3.0, ap (λ (t : List ℕ). text ++ t) others.3.1 ∙ sym (append_assoc text given others.3.0)),
+      );
+}
 
 -- more of the input has come
 pub serves_more : (bytes left more : List ℕ) (old mid : List Node) (text : List ℕ) → Serves false bytes left old mid text
     → Serves false (bytes ++ more) (left ++ more) old mid text
-serves_more bytes left more old mid text so_far = record { goes_on = λ end behind others ending comes session.
-    subst (λ (b : List ℕ). Session end b old (text ++ others) ending) (sym (append_assoc bytes more behind))
-        (so_far.goes_on end (more ++ behind) others ending tt
-            (subst (λ (b : List ℕ). Session end b mid others ending) (append_assoc left more behind) session)) }
+serves_more bytes left more old mid text so_far = record {
+  goes_on = λ end behind others ending comes session.
+      subst (λ (b : List ℕ). Session end b old (text ++ others) ending) (sym (append_assoc bytes more behind))
+      (so_far.goes_on end (more ++ behind) others ending tt
+      (subst (λ (b : List ℕ). Session end b mid others ending) (append_assoc left more behind) session));
+}
 
 -- ---- what of an input is read
 
@@ -56,15 +67,17 @@ pub whole_ends : (input rest : List ℕ) (text : List ℕ) (ending : Ending) →
     → WholeSession (input ++ rest) text ending
 whole_ends input rest text ending few served =
     subst (λ (b : List ℕ). Session (leb (length (input ++ rest)) script_limit) b root text ending) (sym (take_front script_limit input rest few))
-        (served.session (leb (length (input ++ rest)) script_limit) (take (script_limit - length input) rest) tt)
+    (served.session (leb (length (input ++ rest)) script_limit) (take (script_limit - length input) rest) tt)
 
 pub whole_begins : (input rest : List ℕ) (given : List ℕ) → length input ≤ script_limit → BeginsServing false input root given
     → (text : List ℕ) × (ending : Ending) × WholeSession (input ++ rest) text ending × IsFrontOf given text
 whole_begins input rest given few served =
-    let session = served.session (leb (length (input ++ rest)) script_limit) (take (script_limit - length input) rest) tt in
-    (session.0, session.1,
-        subst (λ (b : List ℕ). Session (leb (length (input ++ rest)) script_limit) b root session.0 session.1) (sym (take_front script_limit input rest few)) session.2,
-        session.3)
+    let session = served.session (leb (length (input ++ rest)) script_limit) (take (script_limit - length input) rest) tt in (
+      session.0,
+      session.1,
+      subst (λ (b : List ℕ). Session (leb (length (input ++ rest)) script_limit) b root session.0 session.1) (sym (take_front script_limit input rest few)) session.2,
+      session.3,
+    )
 
 -- a session of all of an input
 pub whole_at_end : (input : List ℕ) (text : List ℕ) (ending : Ending) → length input ≤ script_limit → Session true input root text ending
@@ -94,7 +107,8 @@ starts left sink = record {
   short = omega arith;
   given = told_same _ sink (λ a. ([], sym (append-nil a), serves_starts false [] root));
   told = told_same _ left (λ a. refl);
-  rests = ends root }
+  rests = ends root;
+}
 
 -- what the host tells of the input and of the sink, put together
 assemble : (status : ℕ) (left left_now sink sink_now : Option (List ℕ)) (P : List ℕ → List ℕ → Type 0) (X : List ℕ → Type 0)
@@ -118,7 +132,8 @@ ran_begun status input all more rest given few is served which =
       done = λ e. absurd (elim which [ inl f ↦ omega arith | inr f ↦ omega arith ]);
       syntax = λ e. absurd (elim which [ inl f ↦ omega arith | inr f ↦ omega arith ]);
       too_long = λ e. absurd (elim which [ inl f ↦ omega arith | inr f ↦ omega arith ]);
-      read_fault = λ e. absurd (elim which [ inl f ↦ omega arith | inr f ↦ omega arith ]) }
+      read_fault = λ e. absurd (elim which [ inl f ↦ omega arith | inr f ↦ omega arith ]);
+    }
 
 -- a run that met bytes that are no form
 ran_to_fault : (input all rest given : List ℕ) → WholeSession all given AtFault → Ran 2 all rest given
@@ -131,21 +146,26 @@ ran_to_fault input all rest given session = record {
   done = λ e. absurd (omega arith);
   syntax = λ e. refl;
   too_long = λ e. absurd (omega arith);
-  read_fault = λ e. absurd (omega arith) }
+  read_fault = λ e. absurd (omega arith);
+}
 
 -- a further piece has come
 pub took : (left left_now left_later sink sink_now sink_later : Option (List ℕ)) (input more : List ℕ) (at : ℕ) (nodes : List Node)
     → IsRunning left left_now sink sink_now input at nodes → length (input ++ more) ≤ script_limit
     → Told left_now left_later (λ a b. a ≡ more ++ b) → Kept sink_now sink_later
     → (at ≤ length (input ++ more)) × SoFar false (input ++ more) (drop at (input ++ more)) root nodes sink sink_later
-        × Told left left_later (λ all rest. all ≡ (input ++ more) ++ rest)
+    × Told left left_later (λ all rest. all ≡ (input ++ more) ++ rest)
 took left left_now left_later sink sink_now sink_later input more at nodes run few came kept =
-    let within = run.within in
-    (omega (arith, length-append input more),
-     told_then _ _ _ sink sink_now sink_later (λ x y z p q. (p.0, q ∙ p.1,
-         subst (λ (b : List ℕ). Serves false (input ++ more) b root nodes p.0) (sym (drop-append-le at input more within))
-             (serves_more input (drop at input) more root nodes p.0 p.2))) run.given kept,
-     told_then _ _ _ left left_now left_later (λ x y z p q. p ∙ ap (λ (r : List ℕ). input ++ r) q ∙ sym (append_assoc input more z)) run.told came)
+    let within = run.within in (
+      omega (arith, length-append input more),
+      told_then _ _ _ sink sink_now sink_later (λ x y z p q. (
+        p.0,
+        q ∙ p.1,
+        subst (λ (b : List ℕ). Serves false (input ++ more) b root nodes p.0) (sym (drop-append-le at input more within))
+            (serves_more input (drop at input) more root nodes p.0 p.2),
+      )) run.given kept,
+      told_then _ _ _ left left_now left_later (λ x y z p q. p ∙ ap (λ (r : List ℕ). input ++ r) q ∙ sym (append_assoc input more z)) run.told came,
+    )
 
 -- The lines that had come were answered, and a further piece has come.
 pub record HasMore (left left_now sink sink_now : Option (List ℕ)) (input : List ℕ) (at : ℕ) (nodes : List Node) : Type 0 where
@@ -161,7 +181,7 @@ took_piece left left_now left_later sink sink_now sink_later input input_after a
     let few : length (input ++ taken.0) ≤ script_limit = subst (λ (b : List ℕ). length b ≤ script_limit) taken.2 taken.3 in
     let more = took left left_now left_later sink sink_now sink_later input taken.0 at nodes run few taken.4 kept in
     subst (λ (b : List ℕ). HasMore left left_later sink sink_later b at nodes) (sym taken.2)
-        (record { within = more.0; short = few; given = more.1; told = more.2 })
+    (record { within = more.0; short = few; given = more.1; told = more.2 })
 
 -- how much less may come then
 pub took_shorter : (left_now left_later : Option (List ℕ)) (input input_after : List ℕ) → TakesMore piece.Some left_now left_later input input_after
@@ -179,11 +199,14 @@ pub served_on : (left left_now left_later sink sink_now sink_later : Option (Lis
 served_on left left_now left_later sink sink_now sink_later input at next nodes mid few so_far told served kept = record {
   within = served.within;
   short = few;
-  given = told_then _ _ _ sink sink_now sink_later (λ x y z p q.
-      (p.0 ++ q.0, q.1 ∙ ap (λ (t : List ℕ). t ++ q.0) p.1 ∙ append_assoc x p.0 q.0,
-          serves_then false input (drop at input) (drop next input) root nodes mid p.0 q.0 p.2 q.2)) so_far served.given;
+  given = told_then _ _ _ sink sink_now sink_later (λ x y z p q. (
+    p.0 ++ q.0,
+    q.1 ∙ ap (λ (t : List ℕ). t ++ q.0) p.1 ∙ append_assoc x p.0 q.0,
+    serves_then false input (drop at input) (drop next input) root nodes mid p.0 q.0 p.2 q.2,
+  )) so_far served.given;
   told = told_then _ _ _ left left_now left_later (λ x y z p q. p ∙ ap (λ (r : List ℕ). input ++ r) (sym q)) told kept;
-  rests = served.rests }
+  rests = served.rests;
+}
 
 -- only a front of the next replies was given
 front_ends : (status : ℕ) (left left_now left_later sink sink_now sink_later : Option (List ℕ)) (input : List ℕ) (at : ℕ) (nodes : List Node)
@@ -192,11 +215,13 @@ front_ends : (status : ℕ) (left left_now left_later sink sink_now sink_later :
     → Ends status left left_later sink sink_later
 front_ends status left left_now left_later sink sink_now sink_later input at nodes which few so_far told given kept =
     assemble status left left_later sink sink_later (λ all rest. all ≡ input ++ rest) (BeginsServing false input root)
-        (told_then _ _ _ left left_now left_later (λ x y z p q. p ∙ ap (λ (r : List ℕ). input ++ r) (sym q)) told kept)
-        (told_then _ _ _ sink sink_now sink_later (λ x y z p q.
-            (p.0 ++ q.0, q.1 ∙ ap (λ (t : List ℕ). t ++ q.0) p.1 ∙ append_assoc x p.0 q.0,
-                begins_then false input (drop at input) root nodes p.0 q.0 p.2 q.2)) so_far given)
-        (λ all rest text is served. ran_begun status input all rest rest text few is served which)
+    (told_then _ _ _ left left_now left_later (λ x y z p q. p ∙ ap (λ (r : List ℕ). input ++ r) (sym q)) told kept)
+    (told_then _ _ _ sink sink_now sink_later (λ x y z p q. (
+      p.0 ++ q.0,
+      q.1 ∙ ap (λ (t : List ℕ). t ++ q.0) p.1 ∙ append_assoc x p.0 q.0,
+      begins_then false input (drop at input) root nodes p.0 q.0 p.2 q.2,
+    )) so_far given)
+    (λ all rest text is served. ran_begun status input all rest rest text few is served which)
 
 pub served_stops : (left left_now left_later sink sink_now sink_later : Option (List ℕ)) (input : List ℕ) (at : ℕ) (nodes : List Node) (s : Stop) (before faults : ℕ)
     → length input ≤ script_limit → SoFar false input (drop at input) root nodes sink sink_now → Told left left_now (λ all rest. all ≡ input ++ rest)
@@ -204,12 +229,14 @@ pub served_stops : (left left_now left_later sink sink_now sink_later : Option (
     → Ends (stop_status s) left left_later sink sink_later
 served_stops left left_now left_later sink sink_now sink_later input at nodes stop.Syntax before faults few so_far told served kept =
     assemble 2 left left_later sink sink_later (λ all rest. all ≡ input ++ rest) (λ text. EndsServing false input root text AtFault)
-        (told_then _ _ _ left left_now left_later (λ x y z p q. p ∙ ap (λ (r : List ℕ). input ++ r) (sym q)) told kept)
-        (told_then _ _ _ sink sink_now sink_later (λ x y z p q.
-            (p.0 ++ q.0, q.1 ∙ ap (λ (t : List ℕ). t ++ q.0) p.1 ∙ append_assoc x p.0 q.0,
-                ends_then false input (drop at input) root nodes p.0 q.0 AtFault p.2 q.2)) so_far served)
-        (λ all rest text is ended. ran_to_fault input all rest text
-            (subst (λ (b : List ℕ). WholeSession b text AtFault) (sym is) (whole_ends input rest text AtFault few ended)))
+    (told_then _ _ _ left left_now left_later (λ x y z p q. p ∙ ap (λ (r : List ℕ). input ++ r) (sym q)) told kept)
+    (told_then _ _ _ sink sink_now sink_later (λ x y z p q. (
+      p.0 ++ q.0,
+      q.1 ∙ ap (λ (t : List ℕ). t ++ q.0) p.1 ∙ append_assoc x p.0 q.0,
+      ends_then false input (drop at input) root nodes p.0 q.0 AtFault p.2 q.2,
+    )) so_far served)
+    (λ all rest text is ended. ran_to_fault input all rest text
+    (subst (λ (b : List ℕ). WholeSession b text AtFault) (sym is) (whole_ends input rest text AtFault few ended)))
 served_stops left left_now left_later sink sink_now sink_later input at nodes stop.ReadFault before faults few so_far told served kept = absurd served
 served_stops left left_now left_later sink sink_now sink_later input at nodes stop.TooLong before faults few so_far told served kept = absurd served
 served_stops left left_now left_later sink sink_now sink_later input at nodes stop.WriteFault before faults few so_far told served kept =
@@ -224,7 +251,7 @@ session_so_far : (input : List ℕ) (at : ℕ) (nodes : List Node) (text : List 
 session_so_far input at nodes text served rests =
     let here : Session false (drop at input ++ []) nodes [] Unfinished = subst (λ (b : List ℕ). Session false b nodes [] Unfinished) (sym (append-nil (drop at input))) rests in
     subst (λ (b : List ℕ). Session false b root text Unfinished) (append-nil input)
-        (subst (λ (t : List ℕ). Session false (input ++ []) root t Unfinished) (append-nil text) (served.goes_on false [] [] Unfinished tt here))
+    (subst (λ (t : List ℕ). Session false (input ++ []) root t Unfinished) (append-nil text) (served.goes_on false [] [] Unfinished tt here))
 
 ran_to_read_fault : (input all rest text : List ℕ) (at : ℕ) (nodes : List Node) → length input ≤ script_limit → all ≡ input ++ rest
     → Serves false input (drop at input) root nodes text → Session false (drop at input) nodes [] Unfinished → Ran 3 all rest text
@@ -239,7 +266,8 @@ ran_to_read_fault input all rest text at nodes few is served rests =
       done = λ e. absurd (omega arith);
       syntax = λ e. absurd (omega arith);
       too_long = λ e. absurd (omega arith);
-      read_fault = λ e. (input, is, session_so_far input at nodes text served rests) }
+      read_fault = λ e. (input, is, session_so_far input at nodes text served rests);
+    }
 
 ran_to_limit : (input all rest text : List ℕ) (at : ℕ) (nodes : List Node) → length input ≡ script_limit → (more : List ℕ) → all ≡ input ++ more → 0 < length more
     → Serves false input (drop at input) root nodes text → Session false (drop at input) nodes [] Unfinished → Ran 9 all rest text
@@ -252,7 +280,8 @@ ran_to_limit input all rest text at nodes full more is some served rests = recor
   done = λ e. absurd (omega arith);
   syntax = λ e. absurd (omega arith);
   too_long = λ e. refl;
-  read_fault = λ e. absurd (omega arith) }
+  read_fault = λ e. absurd (omega arith);
+}
 
 pub take_stops : (left left_now left_later sink sink_now sink_later : Option (List ℕ)) (input : List ℕ) (at : ℕ) (nodes : List Node) (s : Stop) (before faults : ℕ)
     → IsRunning left left_now sink sink_now input at nodes → TakeStops s left_now left_later input before faults → Kept sink_now sink_later
@@ -261,19 +290,19 @@ take_stops left left_now left_later sink sink_now sink_later input at nodes stop
 take_stops left left_now left_later sink sink_now sink_later input at nodes stop.WriteFault before faults run stops kept = absurd stops
 take_stops left left_now left_later sink sink_now sink_later input at nodes stop.ReadFault before faults run stops kept =
     assemble 3 left left_later sink sink_later (λ all rest. all ≡ input ++ rest) (Serves false input (drop at input) root nodes)
-        (told_then _ _ _ left left_now left_later (λ x y z p q. p ∙ ap (λ (r : List ℕ). input ++ r) (sym q)) run.told stops.0)
-        (told_then _ _ _ sink sink_now sink_later (λ x y z p q. (p.0, q ∙ p.1, p.2)) run.given kept)
-        (λ all rest text is served. ran_to_read_fault input all rest text at nodes run.short is served run.rests)
+    (told_then _ _ _ left left_now left_later (λ x y z p q. p ∙ ap (λ (r : List ℕ). input ++ r) (sym q)) run.told stops.0)
+    (told_then _ _ _ sink sink_now sink_later (λ x y z p q. (p.0, q ∙ p.1, p.2)) run.given kept)
+    (λ all rest text is served. ran_to_read_fault input all rest text at nodes run.short is served run.rests)
 take_stops left left_now left_later sink sink_now sink_later input at nodes stop.TooLong before faults run stops kept =
     assemble 9 left left_later sink sink_later (λ all rest. (more : List ℕ) × (all ≡ input ++ more) × (0 < length more)) (Serves false input (drop at input) root nodes)
-        (told_then _ _ _ left left_now left_later (λ x y z p q. (y, p, q)) run.told stops.1)
-        (told_then _ _ _ sink sink_now sink_later (λ x y z p q. (p.0, q ∙ p.1, p.2)) run.given kept)
-        (λ all rest text is served. ran_to_limit input all rest text at nodes stops.0 is.0 is.1 is.2 served run.rests)
+    (told_then _ _ _ left left_now left_later (λ x y z p q. (y, p, q)) run.told stops.1)
+    (told_then _ _ _ sink sink_now sink_later (λ x y z p q. (p.0, q ∙ p.1, p.2)) run.given kept)
+    (λ all rest text is served. ran_to_limit input all rest text at nodes stops.0 is.0 is.1 is.2 served run.rests)
 take_stops left left_now left_later sink sink_now sink_later input at nodes stop.NoMemory before faults run stops kept =
     assemble 6 left left_later sink sink_later (λ all rest. (more : List ℕ) × (all ≡ input ++ more)) (Serves false input (drop at input) root nodes)
-        (told_then _ _ _ left left_now left_later (λ x y z p q. (y, p)) run.told stops)
-        (told_then _ _ _ sink sink_now sink_later (λ x y z p q. (p.0, q ∙ p.1, p.2)) run.given kept)
-        (λ all rest text is served. ran_begun 6 input all is.0 rest text run.short is.1 (serves_begins false input (drop at input) root nodes text served) (inr refl))
+    (told_then _ _ _ left left_now left_later (λ x y z p q. (y, p)) run.told stops)
+    (told_then _ _ _ sink sink_now sink_later (λ x y z p q. (p.0, q ∙ p.1, p.2)) run.given kept)
+    (λ all rest text is served. ran_begun 6 input all is.0 rest text run.short is.1 (serves_begins false input (drop at input) root nodes text served) (inr refl))
 
 -- ---- the input has ended
 
@@ -296,8 +325,8 @@ ran_to_end input all rest text others at next nodes mid few is none first second
     let both = serves_then true input (drop at input) (drop next input) root nodes mid text others first second in
     let last : Session true (drop next input ++ []) mid [] AtEnd = subst (λ (b : List ℕ). Session true b mid [] AtEnd) (sym (append-nil (drop next input))) rests in
     let session : Session true input root (text ++ others) AtEnd =
-        subst (λ (b : List ℕ). Session true b root (text ++ others) AtEnd) (append-nil input)
-            (subst (λ (t : List ℕ). Session true (input ++ []) root t AtEnd) (append-nil (text ++ others)) (both.goes_on true [] [] AtEnd (refl, refl) last)) in
+    subst (λ (b : List ℕ). Session true b root (text ++ others) AtEnd) (append-nil input)
+    (subst (λ (t : List ℕ). Session true (input ++ []) root t AtEnd) (append-nil (text ++ others)) (both.goes_on true [] [] AtEnd (refl, refl) last)) in
     record {
       text = text ++ others;
       ending = AtEnd;
@@ -307,19 +336,20 @@ ran_to_end input all rest text others at next nodes mid few is none first second
       done = λ e. (refl, none);
       syntax = λ e. absurd (omega arith);
       too_long = λ e. absurd (omega arith);
-      read_fault = λ e. absurd (omega arith) }
+      read_fault = λ e. absurd (omega arith);
+    }
 
 pub finished : (left left_now left_later sink sink_now sink_later : Option (List ℕ)) (input : List ℕ) (at next : ℕ) (nodes mid : List Node)
     → length input ≤ script_limit → SoFar false input (drop at input) root nodes sink sink_now → HasEnded left left_now input
     → ServesTo true input at next nodes mid sink_now sink_later → Kept left_now left_later → Ends 0 left left_later sink sink_later
 finished left left_now left_later sink sink_now sink_later input at next nodes mid few so_far told served kept =
     assemble 0 left left_later sink sink_later (λ all rest. (all ≡ input) × (rest ≡ []))
-        (λ given. (text : List ℕ) × (others : List ℕ) × (given ≡ text ++ others) × Serves false input (drop at input) root nodes text × Serves true (drop at input) (drop next input) nodes mid others)
-        (still_ended left left_now left_later input told kept)
-        (told_then _ _ _ sink sink_now sink_later (λ x y z p q.
-            (p.0 ++ q.0, q.1 ∙ ap (λ (t : List ℕ). t ++ q.0) p.1 ∙ append_assoc x p.0 q.0, (p.0, q.0, refl, p.2, q.2))) so_far served.given)
-        (λ all rest given is both. subst (Ran 0 all rest) (sym both.2)
-            (ran_to_end input all rest both.0 both.1 at next nodes mid few is.0 is.1 both.3 both.4 served.rests))
+    (λ given. (text : List ℕ) × (others : List ℕ) × (given ≡ text ++ others) × Serves false input (drop at input) root nodes text × Serves true (drop at input) (drop next input) nodes mid others)
+    (still_ended left left_now left_later input told kept)
+    (told_then _ _ _ sink sink_now sink_later (λ x y z p q.
+    (p.0 ++ q.0, q.1 ∙ ap (λ (t : List ℕ). t ++ q.0) p.1 ∙ append_assoc x p.0 q.0, (p.0, q.0, refl, p.2, q.2))) so_far served.given)
+    (λ all rest given is both. subst (Ran 0 all rest) (sym both.2)
+    (ran_to_end input all rest both.0 both.1 at next nodes mid few is.0 is.1 both.3 both.4 served.rests))
 
 whole_at_true : (input : List ℕ) (text : List ℕ) (ending : Ending) → length input ≤ script_limit → EndsServing true input root text ending → WholeSession input text ending
 whole_at_true input text ending few served =
@@ -339,7 +369,8 @@ ran_begun_at_end status input all rest given few is served which =
       done = λ e. absurd (elim which [ inl f ↦ omega arith | inr f ↦ omega arith ]);
       syntax = λ e. absurd (elim which [ inl f ↦ omega arith | inr f ↦ omega arith ]);
       too_long = λ e. absurd (elim which [ inl f ↦ omega arith | inr f ↦ omega arith ]);
-      read_fault = λ e. absurd (elim which [ inl f ↦ omega arith | inr f ↦ omega arith ]) }
+      read_fault = λ e. absurd (elim which [ inl f ↦ omega arith | inr f ↦ omega arith ]);
+    }
 
 front_at_end : (status : ℕ) (left left_now left_later sink sink_now sink_later : Option (List ℕ)) (input : List ℕ) (at : ℕ) (nodes : List Node)
     → ((status ≡ 4) ⊎ (status ≡ 6)) → length input ≤ script_limit → SoFar false input (drop at input) root nodes sink sink_now
@@ -347,11 +378,13 @@ front_at_end : (status : ℕ) (left left_now left_later sink sink_now sink_later
     → Ends status left left_later sink sink_later
 front_at_end status left left_now left_later sink sink_now sink_later input at nodes which few so_far told given kept =
     assemble status left left_later sink sink_later (λ all rest. (all ≡ input) × (rest ≡ [])) (BeginsServing true input root)
-        (still_ended left left_now left_later input told kept)
-        (told_then _ _ _ sink sink_now sink_later (λ x y z p q.
-            (p.0 ++ q.0, q.1 ∙ ap (λ (t : List ℕ). t ++ q.0) p.1 ∙ append_assoc x p.0 q.0,
-                begins_then true input (drop at input) root nodes p.0 q.0 p.2 q.2)) so_far given)
-        (λ all rest text is served. ran_begun_at_end status input all rest text few is.0 served which)
+    (still_ended left left_now left_later input told kept)
+    (told_then _ _ _ sink sink_now sink_later (λ x y z p q. (
+      p.0 ++ q.0,
+      q.1 ∙ ap (λ (t : List ℕ). t ++ q.0) p.1 ∙ append_assoc x p.0 q.0,
+      begins_then true input (drop at input) root nodes p.0 q.0 p.2 q.2,
+    )) so_far given)
+    (λ all rest text is served. ran_begun_at_end status input all rest text few is.0 served which)
 
 pub finish_stops : (left left_now left_later sink sink_now sink_later : Option (List ℕ)) (input : List ℕ) (at : ℕ) (nodes : List Node) (s : Stop) (before faults : ℕ)
     → length input ≤ script_limit → SoFar false input (drop at input) root nodes sink sink_now → HasEnded left left_now input
@@ -359,12 +392,14 @@ pub finish_stops : (left left_now left_later sink sink_now sink_later : Option (
     → Ends (stop_status s) left left_later sink sink_later
 finish_stops left left_now left_later sink sink_now sink_later input at nodes stop.Syntax before faults few so_far told served kept =
     assemble 2 left left_later sink sink_later (λ all rest. (all ≡ input) × (rest ≡ [])) (λ text. EndsServing true input root text AtFault)
-        (still_ended left left_now left_later input told kept)
-        (told_then _ _ _ sink sink_now sink_later (λ x y z p q.
-            (p.0 ++ q.0, q.1 ∙ ap (λ (t : List ℕ). t ++ q.0) p.1 ∙ append_assoc x p.0 q.0,
-                ends_then true input (drop at input) root nodes p.0 q.0 AtFault p.2 q.2)) so_far served)
-        (λ all rest text is ended. ran_to_fault input all rest text
-            (subst (λ (b : List ℕ). WholeSession b text AtFault) (sym is.0) (whole_at_true input text AtFault few ended)))
+    (still_ended left left_now left_later input told kept)
+    (told_then _ _ _ sink sink_now sink_later (λ x y z p q. (
+      p.0 ++ q.0,
+      q.1 ∙ ap (λ (t : List ℕ). t ++ q.0) p.1 ∙ append_assoc x p.0 q.0,
+      ends_then true input (drop at input) root nodes p.0 q.0 AtFault p.2 q.2,
+    )) so_far served)
+    (λ all rest text is ended. ran_to_fault input all rest text
+    (subst (λ (b : List ℕ). WholeSession b text AtFault) (sym is.0) (whole_at_true input text AtFault few ended)))
 finish_stops left left_now left_later sink sink_now sink_later input at nodes stop.ReadFault before faults few so_far told served kept = absurd served
 finish_stops left left_now left_later sink sink_now sink_later input at nodes stop.TooLong before faults few so_far told served kept = absurd served
 finish_stops left left_now left_later sink sink_now sink_later input at nodes stop.WriteFault before faults few so_far told served kept =
@@ -376,9 +411,9 @@ finish_stops left left_now left_later sink sink_now sink_later input at nodes st
 pub nothing_done : (left sink : Option (List ℕ)) → Ends 6 left left sink sink
 nothing_done left sink =
     assemble 6 left left sink sink (λ all rest. all ≡ [] ++ rest) (BeginsServing false [] root)
-        (told_same _ left (λ a. refl))
-        (told_same _ sink (λ a. ([], sym (append-nil a), serves_begins false [] [] root root [] (serves_starts false [] root))))
-        (λ all rest text is served. ran_begun 6 [] all rest rest text (omega arith) is served (inr refl))
+    (told_same _ left (λ a. refl))
+    (told_same _ sink (λ a. ([], sym (append-nil a), serves_begins false [] [] root root [] (serves_starts false [] root))))
+    (λ all rest text is served. ran_begun 6 [] all rest rest text (omega arith) is served (inr refl))
 
 -- ---- the counts
 

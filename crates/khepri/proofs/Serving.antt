@@ -19,9 +19,9 @@ behind_later true end form [] more later uncut = rw (later.0, later.1) refl
 behind_later false end form [] more later uncut = absurd (uncut refl)
 behind_later is_end end form (byte ∷ rest) more later uncut = by_newline (eqb byte 10)
   where
-  by_newline : (t : Bool) → cond t (Ok (form, rest ++ more)) (Err Fault) ≡ extended more (cond t (Ok (form, rest)) (Err Fault))
-  by_newline true = refl
-  by_newline false = refl
+    by_newline : (t : Bool) → cond t (Ok (form, rest ++ more)) (Err Fault) ≡ extended more (cond t (Ok (form, rest)) (Err Fault))
+    by_newline true = refl
+    by_newline false = refl
 
 line_case : (is_end end : Bool) (more : List ℕ) (now later : Read Form) → Later is_end end more → (now ≢ Err Cut → later ≡ extended more now)
     → (now >>= λ x. behind_form is_end x.0 x.1) ≢ Err Cut
@@ -84,7 +84,7 @@ session_within n end [] nodes few = ([], all_read end, ends nodes)
 session_within zero end (byte ∷ bytes) nodes few = absurd (omega arith)
 session_within (suc n) end (byte ∷ bytes) nodes few =
     session_by_line end byte bytes nodes (line_at end (byte ∷ bytes)) refl (λ form rest is.
-        session_within n end rest (after form nodes) (let shorter = line_shorter end (byte ∷ bytes) (form, rest) is in omega arith))
+    session_within n end rest (after form nodes) (let shorter = line_shorter end (byte ∷ bytes) (form, rest) is in omega arith))
 
 pub session_exists : (end : Bool) (bytes : List ℕ) (nodes : List Node) → HasSession end bytes nodes
 session_exists end bytes nodes = session_within (length bytes) end bytes nodes (omega arith)
@@ -101,12 +101,14 @@ not_cut read is same = cc
 pub serves_on : (is_end : Bool) (bytes left : List ℕ) (old mid : List Node) (text : List ℕ) (form : Form) (rest : List ℕ)
     → Serves is_end bytes left old mid text → line_at is_end left ≡ Ok (form, rest)
     → Serves is_end bytes rest old (after form mid) (text ++ shown_line (reply_to form mid))
-serves_on is_end bytes left old mid text form rest so_far line = record { goes_on = λ end more others ending comes session.
-    let still : line_at end (left ++ more) ≡ Ok (form, rest ++ more) =
-        line_later is_end end left more comes (not_cut (line_at is_end left) line) ∙ ap (extended more) line in
-    subst (λ (t : List ℕ). Session end (bytes ++ more) old t ending) (sym (append_assoc text (shown_line (reply_to form mid)) others))
-        (so_far.goes_on end more (shown_line (reply_to form mid) ++ others) ending comes
-            (answers (left ++ more) mid form (rest ++ more) others ending still session)) }
+serves_on is_end bytes left old mid text form rest so_far line = record {
+  goes_on = λ end more others ending comes session.
+      let still : line_at end (left ++ more) ≡ Ok (form, rest ++ more) =
+      line_later is_end end left more comes (not_cut (line_at is_end left) line) ∙ ap (extended more) line in
+      subst (λ (t : List ℕ). Session end (bytes ++ more) old t ending) (sym (append_assoc text (shown_line (reply_to form mid)) others))
+      (so_far.goes_on end more (shown_line (reply_to form mid) ++ others) ending comes
+      (answers (left ++ more) mid form (rest ++ more) others ending still session));
+}
 
 fault_isn't_cut : (read : Read Form) → read ≡ Err Fault → read ≢ Err Cut
 fault_isn't_cut read is same = cc
@@ -114,36 +116,49 @@ fault_isn't_cut read is same = cc
 -- bytes that are no form
 pub serves_faulty : (is_end : Bool) (bytes left : List ℕ) (old mid : List Node) (text : List ℕ)
     → Serves is_end bytes left old mid text → line_at is_end left ≡ Err Fault → EndsServing is_end bytes old text AtFault
-serves_faulty is_end bytes left old mid text so_far line = record { session = λ end more comes.
-    let still : line_at end (left ++ more) ≡ Err Fault =
-        line_later is_end end left more comes (fault_isn't_cut (line_at is_end left) line) ∙ ap (extended more) line in
-    subst (λ (t : List ℕ). Session end (bytes ++ more) old t AtFault) (append-nil text)
-        (so_far.goes_on end more [] AtFault comes (faulty (left ++ more) mid still)) }
+serves_faulty is_end bytes left old mid text so_far line = record {
+  session = λ end more comes.
+      let still : line_at end (left ++ more) ≡ Err Fault =
+      line_later is_end end left more comes (fault_isn't_cut (line_at is_end left) line) ∙ ap (extended more) line in
+      subst (λ (t : List ℕ). Session end (bytes ++ more) old t AtFault) (append-nil text)
+      (so_far.goes_on end more [] AtFault comes (faulty (left ++ more) mid still));
+}
 
 -- the input ends inside a form
 pub serves_cut : (bytes left : List ℕ) (old mid : List Node) (text : List ℕ)
     → Serves true bytes left old mid text → left ≢ [] → line_at true left ≡ Err Cut → EndsServing true bytes old text AtFault
-serves_cut bytes left old mid text so_far some line = record { session = λ end more comes.
-    let whole : Session true (left ++ []) mid [] AtFault = subst (λ (b : List ℕ). Session true b mid [] AtFault) (sym (append-nil left)) (cut left mid some line) in
-    let here : Session end (left ++ more) mid [] AtFault = rw (comes.0, comes.1) whole in
-    subst (λ (t : List ℕ). Session end (bytes ++ more) old t AtFault) (append-nil text) (so_far.goes_on end more [] AtFault comes here) }
+serves_cut bytes left old mid text so_far some line = record {
+  session = λ end more comes.
+      let whole : Session true (left ++ []) mid [] AtFault = subst (λ (b : List ℕ). Session true b mid [] AtFault) (sym (append-nil left)) (cut left mid some line) in
+      let here : Session end (left ++ more) mid [] AtFault = rw (comes.0, comes.1) whole in
+      subst (λ (t : List ℕ). Session end (bytes ++ more) old t AtFault) (append-nil text) (so_far.goes_on end more [] AtFault comes here);
+}
 
 -- what was given so far is a front of what a session gives
 pub serves_begins : (is_end : Bool) (bytes left : List ℕ) (old mid : List Node) (text : List ℕ)
     → Serves is_end bytes left old mid text → BeginsServing is_end bytes old text
-serves_begins is_end bytes left old mid text so_far = record { session = λ end more comes.
-    let others = session_exists end (left ++ more) mid in
-    (text ++ others.0, others.1, so_far.goes_on end more others.0 others.1 comes others.2, (others.0, refl)) }
+serves_begins is_end bytes left old mid text so_far = record {
+  session = λ end more comes.
+      let others = session_exists end (left ++ more) mid in
+      (text ++ others.0, others.1, so_far.goes_on end more others.0 others.1 comes others.2, (others.0, refl));
+}
 
 -- and so it is with a front of the next reply
 pub serves_front : (is_end : Bool) (bytes left : List ℕ) (old mid : List Node) (text : List ℕ) (form : Form) (rest given : List ℕ)
     → Serves is_end bytes left old mid text → line_at is_end left ≡ Ok (form, rest) → IsFrontOf given (shown_line (reply_to form mid))
     → BeginsServing is_end bytes old (text ++ given)
-serves_front is_end bytes left old mid text form rest given so_far line front = record { session = λ end more comes.
-    let on = serves_on is_end bytes left old mid text form rest so_far line in
-    let others = session_exists end (rest ++ more) (after form mid) in
-    let whole = text ++ shown_line (reply_to form mid) in
-    (whole ++ others.0, others.1, on.goes_on end more others.0 others.1 comes others.2,
-        (front.0 ++ others.0,
-            ap (λ (t : List ℕ). (text ++ t) ++ others.0) front.1 ∙ ap (λ (t : List ℕ). t ++ others.0) (sym (append_assoc text given front.0))
-                ∙ append_assoc (text ++ given) front.0 others.0)) }
+serves_front is_end bytes left old mid text form rest given so_far line front = record {
+  session = λ end more comes.
+      let on = serves_on is_end bytes left old mid text form rest so_far line in
+      let others = session_exists end (rest ++ more) (after form mid) in
+      let whole = text ++ shown_line (reply_to form mid) in (
+        whole ++ others.0,
+        others.1,
+        on.goes_on end more others.0 others.1 comes others.2,
+        (
+          front.0 ++ others.0,
+          ap (λ (t : List ℕ). (text ++ t) ++ others.0) front.1 ∙ ap (λ (t : List ℕ). t ++ others.0) (sym (append_assoc text given front.0))
+              ∙ append_assoc (text ++ given) front.0 others.0,
+        ),
+      );
+}

@@ -20,8 +20,8 @@ pub tells_ending : (status : ℕ) (left left_after sink sink_after : Option (Lis
     → (status ≡ 3 → ⊥) → (status ≡ 4 → ⊥) → TellsEnding status left left_after sink sink_after
 tells_ending status left left_after sink sink_after ran no_read no_write =
     told_as _ _ left left_after (λ input rest given. told_as _ _ sink sink_after (λ a b q text ending session.
-        by_how status q.2.ending ending q.2.how no_read no_write
-            (session_unique _ _ root q.2.text text q.2.ending ending q.2.session session).1) given) ran
+    by_how status q.2.ending ending q.2.how no_read no_write
+    (session_unique _ _ root q.2.text text q.2.ending ending q.2.session session).1) given) ran
 
 pub no_rise : (before later : ℕ) → later ≡ before → later < 2 ^ 64 - 1 → Rose before later → ⊥
 no_rise before later same room rose = let up = rose (rw (← same) room) in omega arith
@@ -50,5 +50,5 @@ pub stop_tells : (status : ℕ) (s : Stop) (left left_after sink sink_after : Op
     → NoFaults reads reads_after writes writes_after → TellsEnding status left left_after sink sink_after
 stop_tells status s left left_after sink sink_after reads reads_after writes writes_after is ran read write none =
     rw is (tells_ending (stop_status s) left left_after sink sink_after ran
-        (λ e. no_rise reads reads_after none.no_read none.read_room (read (ap stopped (read_stop s e))))
-        (λ e. no_rise writes writes_after none.no_write none.write_room (write (ap stopped (write_stop s e)))))
+    (λ e. no_rise reads reads_after none.no_read none.read_room (read (ap stopped (read_stop s e))))
+    (λ e. no_rise writes writes_after none.no_write none.write_room (write (ap stopped (write_stop s e)))))

@@ -17,7 +17,7 @@ record IsDecided (end : Bool) (bytes : List ℕ) (nodes : List Node) (text : Lis
   at_fault : line_at end bytes ≡ Err Fault → (text ≡ []) × (ending ≡ AtFault)
   at_cut : bytes ≢ [] → line_at end bytes ≡ Err Cut → (text ≡ []) × (ending ≡ cut_short end)
   at_form : (form : Form) (rest : List ℕ) → line_at end bytes ≡ Ok (form, rest)
-    → (others : List ℕ) × Session end rest (after form nodes) others ending × (text ≡ shown_line (reply_to form nodes) ++ others)
+      → (others : List ℕ) × Session end rest (after form nodes) others ending × (text ≡ shown_line (reply_to form nodes) ++ others)
 
 abbrev got : Form × List ℕ → Read Form
 got x = Ok x
@@ -39,17 +39,20 @@ decided end bytes nodes text ending (ends same) = record {
   at_end = λ e. (refl, refl);
   at_fault = λ line. absurd (cut_or_fault (line_at end []) (nothing_there end) line);
   at_cut = λ some line. absurd (some refl);
-  at_form = λ form rest line. absurd (apart (line_at end []) (nothing_there end) line) }
+  at_form = λ form rest line. absurd (apart (line_at end []) (nothing_there end) line);
+}
 decided end bytes nodes text ending (faulty same_bytes same_nodes is) = record {
   at_end = λ e. absurd (cut_or_fault (line_at end bytes) (ap (line_at end) e ∙ nothing_there end) is);
   at_fault = λ line. (refl, refl);
   at_cut = λ some line. absurd (cut_or_fault (line_at end bytes) line is);
-  at_form = λ form rest line. absurd (fault_apart (line_at end bytes) is line) }
+  at_form = λ form rest line. absurd (fault_apart (line_at end bytes) is line);
+}
 decided end bytes nodes text ending (cut same_bytes same_nodes left is) = record {
   at_end = λ e. absurd (left e);
   at_fault = λ line. absurd (cut_or_fault (line_at end bytes) is line);
   at_cut = λ some line. (refl, refl);
-  at_form = λ form rest line. absurd (apart (line_at end bytes) is line) }
+  at_form = λ form rest line. absurd (apart (line_at end bytes) is line);
+}
 decided end bytes nodes text ending (answers same_bytes same_nodes read left others same_ending is session) = record {
   at_end = λ e. absurd (apart (line_at end bytes) (ap (line_at end) e ∙ nothing_there end) is);
   at_fault = λ line. absurd (fault_apart (line_at end bytes) line is);
@@ -57,7 +60,8 @@ decided end bytes nodes text ending (answers same_bytes same_nodes read left oth
   at_form = λ form rest line.
       let same : (read, left) ≡ (form, rest) = same_read (read, left) (form, rest) (sym is ∙ line) in
       subst (λ (y : Form × List ℕ). (t : List ℕ) × Session end y.1 (after y.0 nodes) t ending × (shown_line (reply_to read nodes) ++ others ≡ shown_line (reply_to y.0 nodes) ++ t))
-          same (others, session, refl) }
+      same (others, session, refl);
+}
 
 -- two sessions of the same bytes from the same tree are one
 pub session_unique : (end : Bool) (bytes : List ℕ) (nodes : List Node) (text other : List ℕ) (ending last : Ending)

@@ -20,7 +20,7 @@ ok_with value = tree.Tuple (word (codes "ok") ∷ value ∷ [])
 abbrev pub node_not_found : List Name → TermTree
 node_not_found path =
     tree.Tuple (word (codes "error") ∷ tree.Tuple (word (codes "khepri") ∷ word (codes "node_not_found")
-        ∷ tree.Map ((word (codes "node_path"), path_tree path) ∷ []) ∷ []) ∷ [])
+    ∷ tree.Map ((word (codes "node_path"), path_tree path) ∷ []) ∷ []) ∷ [])
 
 -- the answer to a `get`: the data, `undefined` for a node without data, an error where there is no node
 abbrev pub answer_of : Option (Option ℤ) → List Name → TermTree

@@ -37,8 +37,8 @@ pub data Session (is_end : Bool) : List ℕ → List Node → List ℕ → Endin
   faulty : (bytes : List ℕ) (nodes : List Node) → line_at is_end bytes ≡ Err Fault → Session is_end bytes nodes [] AtFault
   cut : (bytes : List ℕ) (nodes : List Node) → bytes ≢ [] → line_at is_end bytes ≡ Err Cut → Session is_end bytes nodes [] (cut_short is_end)
   answers : (bytes : List ℕ) (nodes : List Node) (form : Form) (rest text : List ℕ) (ending : Ending)
-    → line_at is_end bytes ≡ Ok (form, rest) → Session is_end rest (after form nodes) text ending
-    → Session is_end bytes nodes (shown_line (reply_to form nodes) ++ text) ending
+      → line_at is_end bytes ≡ Ok (form, rest) → Session is_end rest (after form nodes) text ending
+      → Session is_end bytes nodes (shown_line (reply_to form nodes) ++ text) ending
 
 -- What may come behind bytes that were read: nothing behind the end of the input, and else anything.
 abbrev pub Later : Bool → Bool → List ℕ → Type 0
@@ -48,7 +48,7 @@ Later false is_end more = Unit {0}
 -- From the first bytes on, a session gives this text and goes on at the second ones, whatever comes behind them.
 pub record Serves (is_end : Bool) (bytes left : List ℕ) (old new : List Node) (text : List ℕ) : Type 0 where
   pub goes_on : (end : Bool) (more others : List ℕ) (ending : Ending) → Later is_end end more
-    → Session end (left ++ more) new others ending → Session end (bytes ++ more) old (text ++ others) ending
+      → Session end (left ++ more) new others ending → Session end (bytes ++ more) old (text ++ others) ending
 
 -- From these bytes on, a session gives this text and ends so, whatever comes behind them.
 pub record EndsServing (is_end : Bool) (bytes : List ℕ) (nodes : List Node) (text : List ℕ) (ending : Ending) : Type 0 where
@@ -57,7 +57,7 @@ pub record EndsServing (is_end : Bool) (bytes : List ℕ) (nodes : List Node) (t
 -- From these bytes on, a session gives this and maybe more, whatever comes behind them.
 pub record BeginsServing (is_end : Bool) (bytes : List ℕ) (nodes : List Node) (given : List ℕ) : Type 0 where
   pub session : (end : Bool) (more : List ℕ) → Later is_end end more
-    → (text : List ℕ) × (ending : Ending) × Session end (bytes ++ more) nodes text ending × IsFrontOf given text
+      → (text : List ℕ) × (ending : Ending) × Session end (bytes ++ more) nodes text ending × IsFrontOf given text
 
 -- how many bytes of a script are read as text
 abbrev pub script_limit : ℕ

@@ -20,12 +20,7 @@ pub enum Line {
 }
 
 /// Reads the line at a place. `is_end` says that the input ends behind these bytes.
-pub fn read_line(
-    alloc: Global,
-    input: &[u8],
-    at: usize,
-    is_end: bool,
-) -> Result<Line, NoMemory>
+pub fn read_line(alloc: Global, input: &[u8], at: usize, is_end: bool) -> Result<Line, NoMemory>
     requires { at ≤ length input.now }
     ensures { IfOk result (λ line. ReadsLine is_end input.now at line) }
 {

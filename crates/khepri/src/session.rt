@@ -27,12 +27,7 @@ pub enum Stop {
 }
 
 /// Executes a form, and gives its reply.
-pub fn answer<H: Host>(
-    alloc: Global,
-    host: &mut H,
-    tree: &mut Tree,
-    form: Form,
-) -> Result<(), Stop>
+pub fn answer<H: Host>(alloc: Global, host: &mut H, tree: &mut Tree, form: Form) -> Result<(), Stop>
     ensures given { OnOk result (GivesAll (H.given host.old) (H.given host.new) (shown_line (reply_to form tree.old))) }
     ensures tree { OnOk result (tree.new ≡ after form tree.old) }
     ensures front { OnErr result (Extends (H.given host.old) (H.given host.new) (λ more. IsFrontOf more (shown_line (reply_to form tree.old)))) }

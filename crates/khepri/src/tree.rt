@@ -52,7 +52,13 @@ impl Tree {
         ensures err { OnErr result (self.new ≡ self.old) }
     {
         let parents = parents_of(self.alloc, &path)?;
-        put_below(self.alloc, &mut self.nodes, parents.as_slice(), path, number)
+        put_below(
+            self.alloc,
+            &mut self.nodes,
+            parents.as_slice(),
+            path,
+            number,
+        )
     }
 }
 

@@ -11,9 +11,9 @@ returns-in-Err-answer-clause-stops g c =
     let host = g.H.Host in
     let line = rw c.in-Ok-Form.field-0-is at c.in-Ok-Form.ensures in
     no_reply c.args.is_end (drop c.args.at c.args.input.now) (drop c.lines.place c.args.input.now) (drop c.in-Ok-Form.next c.args.input.now)
-        c.args.tree.now c.lines.tree c.in-Ok-Form.form (host.given c.args.host.now) (host.given c.lines.host) (host.given c.answer.new.host)
-        c.in-Err-answer.stop (host.write_faults c.args.host.now) (host.write_faults c.lines.host) (host.write_faults c.answer.new.host)
-        c.lines.invariant.given line.0 c.in-Err-answer.ensures.front c.in-Err-answer.ensures.stops c.lines.invariant.no_fault
+    c.args.tree.now c.lines.tree c.in-Ok-Form.form (host.given c.args.host.now) (host.given c.lines.host) (host.given c.answer.new.host)
+    c.in-Err-answer.stop (host.write_faults c.args.host.now) (host.write_faults c.lines.host) (host.write_faults c.answer.new.host)
+    c.lines.invariant.given line.0 c.in-Err-answer.ensures.front c.in-Err-answer.ensures.stops c.lines.invariant.no_fault
 
 pub lines-preserved : goal.lines-preserved
 lines-preserved g c =
@@ -44,15 +44,15 @@ pub returns-in-Ok-Fault-clause-stops : goal.returns-in-Ok-Fault-clause-stops
 returns-in-Ok-Fault-clause-stops g c =
     let host = g.H.Host in
     to_fault c.args.is_end (drop c.args.at c.args.input.now) (drop c.lines.place c.args.input.now) c.args.tree.now c.lines.tree
-        (host.given c.args.host.now) (host.given c.lines.host) c.lines.invariant.given (rw c.in-Ok-Fault.field-0-is at c.in-Ok-Fault.ensures)
+    (host.given c.args.host.now) (host.given c.lines.host) c.lines.invariant.given (rw c.in-Ok-Fault.field-0-is at c.in-Ok-Fault.ensures)
 
 pub returns-then-is_end-clause-stops : goal.returns-then-is_end-clause-stops
 returns-then-is_end-clause-stops g c =
     let host = g.H.Host in
     let line = rw c.in-Ok-Unfinished.field-0-is at c.in-Ok-Unfinished.ensures in
     to_cut c.args.is_end (drop c.args.at c.args.input.now) (drop c.lines.place c.args.input.now) c.args.tree.now c.lines.tree
-        (host.given c.args.host.now) (host.given c.lines.host) c.if-is_end.true c.lines.invariant.given
-        (some_left c.args.input.now c.lines.place line.0) line.1
+    (host.given c.args.host.now) (host.given c.lines.host) c.if-is_end.true c.lines.invariant.given
+    (some_left c.args.input.now c.lines.place line.0) line.1
 
 pub returns-else-is_end-clause-served : goal.returns-else-is_end-clause-served
 returns-else-is_end-clause-served g c =
@@ -68,4 +68,4 @@ pub returns-in-Err-clause-stops : goal.returns-in-Err-clause-stops
 returns-in-Err-clause-stops g c =
     let host = g.H.Host in
     to_front c.args.is_end (drop c.args.at c.args.input.now) (drop c.lines.place c.args.input.now) c.args.tree.now c.lines.tree
-        (host.given c.args.host.now) (host.given c.lines.host) c.lines.invariant.given
+    (host.given c.args.host.now) (host.given c.lines.host) c.lines.invariant.given
