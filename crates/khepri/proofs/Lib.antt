@@ -6,3 +6,4 @@ pub mod Lines
 pub mod Running
 pub mod Unique
 pub mod Status
+pub mod WholeScript

@@ -7,3 +7,5 @@ pub mod Serving
 pub mod Input
 pub mod Run
 pub mod Words
+pub mod Sound
+pub mod Plain

@@ -5,8 +5,13 @@ mod input;
 mod line;
 mod machine;
 mod output;
+#[cfg(test)]
+mod plain;
 mod run;
 mod session;
+mod sound;
+#[cfg(test)]
+mod tests;
 mod top;
 mod tree;
 
