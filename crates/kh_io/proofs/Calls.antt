@@ -6,7 +6,7 @@ use Rattle.std.proofs.lemmas.List.Sums.{sum_by-cons}
 use Rattle.kh_io.specs.Call.{moved, cost}
 use Rattle.kh_io.specs.Entry.{byte_count, call_of, calls_of}
 use Rattle.kh_io.specs.declared.journal.Entry.{Entry}
-use Rattle.kh_io.specs.declared.journal.Entry.TheVariants.{Taken, Given}
+use Rattle.kh_io.specs.declared.journal.Entry.TheVariants.{Taken, Given, Asked, Read, Written, CutTo, Synced}
 
 -- each entry is a call
 pub length-calls_of : (es : List Entry) (bs : List ℕ) → length (calls_of es bs) ≡ length es
@@ -18,6 +18,12 @@ pub moved-call_of : (e : Entry) (bs : List ℕ) → byte_count e ≡ length bs �
 moved-call_of (Taken asked (Some n)) bs h = sym h
 moved-call_of (Taken asked None) bs h = refl
 moved-call_of (Given len count) bs h = sym h
+moved-call_of (Asked file len) bs h = refl
+moved-call_of (Read file at asked (Some n)) bs h = sym h
+moved-call_of (Read file at asked None) bs h = refl
+moved-call_of (Written file at len done) bs h = sym h
+moved-call_of (CutTo file len done) bs h = refl
+moved-call_of (Synced file done) bs h = refl
 
 -- the calls move the bytes
 pub moved-calls_of : (es : List Entry) (bs : List ℕ) → sum_by byte_count es ≡ length bs → sum_by moved (calls_of es bs) ≡ length bs

@@ -1,2 +1,5 @@
 pub mod Calls
 pub mod Lists
+pub mod Images
+pub mod Recordings
+pub mod Steps
