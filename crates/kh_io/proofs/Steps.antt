@@ -1,5 +1,5 @@
 -- What one more call of a host in memory does to its files and to time.
-use Rattle.std.proofs.Common.{ℕ, ◌≡◌, ◌≢◌, ◌⊎◌, ◌+◌, ◌<◌, ◌≤◌, Bool, true, false, List, [], ◌∷◌, ◌++◌, Option, Some, None, length, take, refl, sym, ap, subst, ◌∙◌, inl, inr, arith, ne_eqb, eq-eqb, IsTrue, IsFalse, IsSome,  ◌==◌, ◌&&◌, if◌then◌else◌, length-append, append-nil, drop, min, sum_by, nat_lt, ◌^◌, ◌-◌, lt-ltb}
+use Rattle.std.proofs.Common.{ℕ, ◌≡◌, ◌≢◌, ◌⊎◌, ◌+◌, ◌<◌, ◌≤◌, Bool, true, false, List, [], ◌∷◌, ◌++◌, Option, Some, None, length, take, refl, sym, ap, subst, ◌∙◌, inl, inr, arith, ne_eqb, eq-eqb, IsTrue, IsFalse, IsSome, IfSome,  ◌==◌, ◌&&◌, if◌then◌else◌, length-append, append-nil, drop, min, sum_by, nat_lt, ◌^◌, ◌-◌, lt-ltb}
 use Rattle.std.proofs.lemmas.List.{take-append-le, take-append-drop, drop-drop, length-take-le, take_all, nil_from_length}
 use Rattle.std.proofs.Math.Seq.{take-length}
 use Rattle.std.proofs.lemmas.List.Sums.{sum_by_push}
@@ -7,7 +7,7 @@ use Rattle.std.proofs.lemmas.Bool.{true≢false, false≢true, cases_lt}
 use Rattle.kh_io.specs.declared.files.Files.{Files}
 use Rattle.kh_io.specs.Call.{Call, cost, Take, Give, Len, ReadAt, WriteAt, Cut, Sync}
 use Rattle.kh_io.specs.Disk.{AreImages, Stays, FilesStay, OthersStay, Follows, Torn, CutBack, CutPart, IsSafe, Elapses}
-use Rattle.kh_io.specs.Told.{Gains, Rose, IsFrontOf}
+use Rattle.kh_io.specs.Told.{Told, Gains, Rose, IsFrontOf}
 use Rattle.kh_io.specs.Memory.{one_more}
 use Rattle.kh_io.specs.FileState.{FileState, synced, written, cut_to, after, state_after, IsImage}
 use Rattle.kh_io.specs.Recording.{Recording, HasRoom, takes, gives, left_after, given_in, seen_after, image_after, left_since, noted}
@@ -208,3 +208,36 @@ nothing_added given piece = ([], sym (append-nil given), (piece, refl))
 -- a `give` makes the stamp no less
 pub stamp_grows : (calls : List Call) (call : Call) → length (given_in calls) ≤ length (given_in (calls ++ call ∷ []))
 stamp_grows calls call = rw (given_push calls call, length-append) (omega arith)
+
+-- a host without faults is past its room, or within it
+pub two : {P D : Type 0} (past : Bool) (r : Recording) (n : ℕ)
+    → (IsTrue past ⊎ (HasRoom r n → ⊥) → P) → (IsFalse past → HasRoom r n → D) → P ⊎ (IsFalse past × D)
+two true r n gone done = inl (gone (inl refl))
+two false r n gone done = elim (cases_lt r.room (cost r.calls + 64 + n)) [
+    inl more ↦ inl (gone (inr (λ fits. absurd (omega (arith, more, fits)))))
+  | inr fits ↦ inr (refl, done refl fits) ]
+
+-- past the room nothing is told
+pub told_none : {A : Type 0} (b : Bool) (x : A) (P : A → A → Type 0) → Told (if b then None else Some x) None P
+told_none true x P = tt
+told_none false x P = tt
+
+pub gains_gone : (b : Bool) (calls : List Call) (call : Call) → Gains (if b then None else Some calls) None call
+gains_gone true calls call = tt
+gains_gone false calls call = tt
+
+pub gone_stays : (b : Bool) (x : List ℕ) (image : List ℕ → Type 0) → Stays (if b then None else Some x) None image (λ _. ⊥)
+gone_stays b x image = record { read = told_none b x (λ y z. z ≡ y); only = λ bytes none. absurd none; all = λ some bytes was. absurd (false≢true some) }
+
+pub gone_follows : {told : Type 0} {step : List ℕ → List ℕ → Type 0} (image : List ℕ → Type 0) → (told → ⊥) → Follows told step image (λ _. ⊥)
+gone_follows image untold = record { only = λ c none. absurd none; all = λ h d c was step. absurd (untold h) }
+
+pub gone_time : {told : Type 0} (moment stamp : ℕ) (past : ℕ → Files → ℕ → Type 0) (image : ℕ → List ℕ → Type 0) → (told → ⊥)
+    → Elapses told moment moment past (λ _ _ _. ⊥) image stamp stamp
+gone_time moment stamp past image untold = record {
+  later = omega arith; nothing_else = λ t files s before none. absurd none; keeps = λ h t files s before was. absurd (untold h) }
+
+-- a condition on what is told, where it is told
+pub condition : (b : Bool) (x : List ℕ) (P : List ℕ → Type 0) → IsFalse b → IfSome (if b then None else Some x) P → P x
+condition true x P no_ holds = absurd (true≢false no_)
+condition false x P yes_ holds = holds

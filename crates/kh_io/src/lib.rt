@@ -9,8 +9,10 @@ mod journal;
 mod memory;
 mod recorder;
 mod room;
+mod sound;
 
 pub use failed::{Failed, NoMemory};
 pub use files::{FileBytes, Files};
 pub use host::{Disk, Host};
 pub use memory::MemoryHost;
+pub use sound::SoundHost;
