@@ -2,4 +2,5 @@ pub mod Calls
 pub mod Lists
 pub mod Images
 pub mod Recordings
+pub mod Replays
 pub mod Steps

@@ -5,6 +5,7 @@ pub mod Disk
 pub mod Kept
 pub mod Contents
 pub mod Memory
+pub mod Replay
 pub mod Sound
 pub mod Laws
 pub mod Entry

@@ -43,8 +43,8 @@ fn copied(alloc: Global, bytes: &[u8], free: usize) -> Result<Vec<u8>, NoMemory>
     Ok(all)
 }
 
-// Puts bytes in the place of those that stand there, and past the end.
-fn put(into: &mut Vec<u8>, at: usize, bytes: &[u8])
+/// Puts bytes in the place of those that stand there, and past the end.
+pub fn put(into: &mut Vec<u8>, at: usize, bytes: &[u8])
     requires place { at ≤ vec_len into.old }
     requires room { vec_len into.old + length bytes.now ≤ vec_capacity into.old }
     ensures items { into.new.items ≡ put into.old.items at bytes.now }

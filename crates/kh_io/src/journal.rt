@@ -21,6 +21,21 @@ pub enum Entry {
     Synced { file: u8, done: bool },
 }
 
+impl Entry {
+    ghost use Rattle.kh_io.specs.Entry.{byte_count};
+
+    /// How many bytes belong to the entry.
+    pub fn bytes(&self) -> usize
+        ensures { result ≡ byte_count self.now }
+    {
+        match *self {
+            Entry::Taken { count, .. } | Entry::Read { count, .. } => count.unwrap_or(0),
+            Entry::Given { len, .. } | Entry::Written { len, .. } => len,
+            Entry::Asked { .. } | Entry::CutTo { .. } | Entry::Synced { .. } => 0,
+        }
+    }
+}
+
 /// The calls so far, and room for more.
 #[derive(Drop)]
 pub struct Journal {

@@ -9,6 +9,7 @@ mod journal;
 mod memory;
 mod real;
 mod recorder;
+mod replay;
 mod room;
 mod sound;
 
