@@ -1,5 +1,5 @@
 -- The calls that entries and their bytes stand for.
-use Rattle.std.proofs.Common.{ℕ, ◌≡◌, ◌+◌, ◌*◌, ◌≤◌, List, [], ◌∷◌, ◌++◌, Some, None, length, take, drop, sum_by, refl, sym, ◌∙◌, arith, length-drop}
+use Rattle.std.proofs.Common.{ℕ, zero, suc, ◌≡◌, ◌+◌, ◌*◌, ◌≤◌, List, [], ◌∷◌, ◌++◌, Some, None, length, take, drop, sum_by, refl, ap, sym, ◌∙◌, arith, length-drop}
 use Rattle.std.proofs.lemmas.List.{take-append-le, drop-append-le, length-take-le}
 use Rattle.std.proofs.Math.Seq.{take-length}
 use Rattle.std.proofs.lemmas.List.Sums.{sum_by-cons}
@@ -54,3 +54,9 @@ calls_of-push (x ∷ es) bs e b sum h =
     let le : byte_count x ≤ length bs = omega (arith, both) in
     let rest : sum_by byte_count es ≡ length (drop (byte_count x) bs) = rw length-drop (omega (arith, both)) in
     rw (take-append-le (byte_count x) bs b le, drop-append-le (byte_count x) bs b le, calls_of-push es (drop (byte_count x) bs) e b rest h) refl
+
+-- the first entries are the first calls
+pub calls_of-take : (n : ℕ) (es : List Entry) (bs : List ℕ) → calls_of (take n es) bs ≡ take n (calls_of es bs)
+calls_of-take zero es bs = refl
+calls_of-take (suc n) [] bs = refl
+calls_of-take (suc n) (e ∷ es) bs = ap (λ cs. call_of e (take (byte_count e) bs) ∷ cs) (calls_of-take n es (drop (byte_count e) bs))

@@ -1,13 +1,19 @@
 -- A file, replayed call by call.
-use Rattle.std.proofs.Common.{ℕ, suc, ◌≡◌, ◌+◌, ◌-◌, ◌<◌, ◌≤◌, List, [], ◌∷◌, ◌++◌, Some, None, if◌then◌else◌, Bool, true, false, ◌||◌, reverse, subst, length, take, drop, get_or, fold, sum_by, refl, sym, ap, ◌∙◌, arith, add-one}
+use Rattle.std.proofs.Common.{ℕ, zero, suc, ◌≡◌, ◌+◌, ◌-◌, ◌<◌, ◌≤◌, List, [], ◌∷◌, ◌++◌, Option, Some, None, if◌then◌else◌, Bool, true, false, ◌||◌, reverse, subst, length, take, drop, get_or, fold, sum_by, refl, sym, ap, ◌∙◌, arith, add-one}
 use Rattle.std.proofs.Math.Seq.{drop-cons}
 use Rattle.std.proofs.lemmas.List.{drop-drop, drop_all, reverse-append}
 use Rattle.std.proofs.lemmas.List.Folds.{list_any-append}
 use Rattle.std.specs.List.{list_any}
 use Rattle.std.proofs.lemmas.List.Sums.{sum_by-cons}
-use Rattle.kh_io.specs.FileState.{FileState, synced, after, is_within, is_unsafe}
+use Rattle.kh_io.specs.FileState.{FileState, synced, after, state_after, IsImage, is_within, is_unsafe}
 use Rattle.kh_io.specs.Entry.{byte_count, call_of, calls_of}
-use Rattle.kh_io.specs.Replay.{Replayed, Shows, IsFilled, is_loose_at}
+use Rattle.kh_io.specs.Replay.{Replayed, Shows, IsFilled, AreFilled, is_loose_at}
+use Rattle.kh_io.specs.declared.files.Files.{Files}
+use Rattle.kh_io.specs.Call.{Call}
+use Rattle.kh_io.specs.Disk.{file_of, AreImages}
+use Rattle.kh_io.specs.Recording.{image_after}
+use Rattle.kh_io.specs.Laws.{Sane, sane_state}
+use Rattle.kh_io.proofs.Images.{safe_parts}
 use Rattle.kh_io.specs.declared.journal.Entry.{Entry}
 
 -- the file so far, from which the entries that are left lead to the file after all
@@ -78,3 +84,24 @@ overwritten s r loose byte out shows order len each = record {
     let same : list_any (is_within i) loose ≡ list_any (is_within i) s.loose =
         sym (list_any-reverse (is_within i) loose) ∙ ap (list_any (is_within i)) (sym order ∙ shows.loose) in
     each i lt ∙ rw (shows.least, same, shows.now) refl }
+
+-- a file so filled is one that a crash may leave
+pub filled_image : (s : FileState) (fill : Option ℕ) (bytes : List ℕ) → Sane s → IsFilled s fill bytes → IsImage s bytes
+filled_image s fill bytes sane filled = record {
+  no_shorter = omega (arith, filled.len, sane.least);
+  no_longer = omega (arith, filled.len, sane.most);
+  others = λ i safe. filled.each i (omega (arith, filled.len, sane.least, (safe_parts s i safe).0)) ∙ rw safe refl }
+
+pub filled_images : (first : Files) (calls : List Call) (fill : Option ℕ) (files : Files) → AreFilled first calls fill files → AreImages (image_after first calls) files
+filled_images first calls fill files filled = λ file lt. filled_image (state_after file first calls) fill (file_of files file) (sane_state file first calls) (filled file lt)
+
+-- four files so filled
+pub four_filled : (first : Files) (calls : List Call) (fill : Option ℕ) (files : Files)
+    → IsFilled (state_after 0 first calls) fill files.s0 → IsFilled (state_after 1 first calls) fill files.l0
+    → IsFilled (state_after 2 first calls) fill files.s1 → IsFilled (state_after 3 first calls) fill files.l1
+    → AreFilled first calls fill files
+four_filled first calls fill files a b c d zero lt = a
+four_filled first calls fill files a b c d (suc zero) lt = b
+four_filled first calls fill files a b c d (suc (suc zero)) lt = c
+four_filled first calls fill files a b c d (suc (suc (suc zero))) lt = d
+four_filled first calls fill files a b c d (suc (suc (suc (suc file)))) lt = absurd (omega (arith, lt))

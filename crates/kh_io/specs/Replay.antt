@@ -1,7 +1,10 @@
 -- A file as it stood after some of the calls.
 use Rattle.std.specs.Prelude.{◌≡◌, ℕ, ◌<◌, ◌||◌, nat_le, Bool, List, length, Option, Some, None, if◌then◌else◌, slice_index, unwrap_or}
 use Rattle.std.specs.List.{list_any}
-use Rattle.kh_io.specs.FileState.{FileState, is_within, is_unsafe}
+use Rattle.kh_io.specs.declared.files.Files.{Files}
+use Rattle.kh_io.specs.Call.{Call}
+use Rattle.kh_io.specs.Disk.{file_of}
+use Rattle.kh_io.specs.FileState.{FileState, state_after, is_within, is_unsafe}
 
 pub record Replayed : Type 0 where
   -- what a read gave
@@ -27,3 +30,7 @@ pub record IsFilled (s : FileState) (fill : Option ℕ) (bytes : List ℕ) : Typ
   pub len : length bytes ≡ length s.now
   pub each : (i : ℕ) → i < length bytes
       → slice_index bytes i ≡ (if is_unsafe s i then unwrap_or fill (slice_index s.now i) else slice_index s.now i)
+
+-- the files after these calls, each so filled
+abbrev pub AreFilled : Files → List Call → Option ℕ → Files → Type 0
+AreFilled first calls fill files = (file : ℕ) → file < 4 → IsFilled (state_after file first calls) fill (file_of files file)

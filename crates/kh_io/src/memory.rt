@@ -1,7 +1,8 @@
 //! A host in memory, for tests: it keeps every call, and fails where it is told to.
 ghost use Rattle.std.specs.Prelude.{◌≡◌, ◌<◌, ◌≤◌, ◌+◌, ◌^◌, true, false, length, take, Some, None, Ok, Err, IfOk, IsTrue, IsFalse};
 ghost use Rattle.kh_io.specs.Call.{failed, Take, Give, Len, ReadAt, WriteAt, Cut, Sync};
-ghost use Rattle.kh_io.specs.Disk.{IsReadAt};
+ghost use Rattle.kh_io.specs.Disk.{IsReadAt, AreImages};
+ghost use Rattle.kh_io.specs.Replay.{AreFilled};
 
 ghost use Rattle.kh_io.specs.Recording.{left_after, given_in, seen_after, image_after, left_since, HasRoom};
 
@@ -66,6 +67,16 @@ impl MemoryHost {
         ensures { result.now ≡ given_in self.now.tape.calls }
     {
         self.recorder.output()
+    }
+
+    /// The crash image after the first calls in which each file has the length that a read finds then, and each byte
+    /// that isn't yet safe is as written, or this byte.
+    pub fn image(&self, calls: u64, fill: Option<u8>) -> Result<Files, NoMemory>
+        requires { calls ≤ length self.now.tape.calls }
+        ensures filled { IfOk result (AreFilled self.now.tape.first (take calls self.now.tape.calls) fill) }
+        ensures image { IfOk result (AreImages (image_after self.now.tape.first (take calls self.now.tape.calls))) }
+    {
+        self.recorder.image(calls as usize, fill)
     }
 
     // Whether the next call is listed.

@@ -2,18 +2,21 @@
 ghost use Rattle.std.specs.Prelude.{◌≡◌, ◌≢◌, ◌+◌, ◌-◌, ◌<◌, ◌≤◌, ◌++◌, ◌↔◌, [], ◌∷◌, ℕ, min, true, false, Some, None, length, take, drop, slice_range, vec_capacity, IfOk, IsTrue};
 ghost use Rattle.kh_io.specs.Call.{Take, Give, ReadAt, WriteAt, Cut};
 ghost use Rattle.kh_io.specs.Entry.{byte_count, call_of};
-ghost use Rattle.kh_io.specs.Disk.{file_of, put, IsReadAt};
-ghost use Rattle.kh_io.specs.Recording.{Recording, left_after, given_in, seen_after, noted, HasRoom, is_idle};
+ghost use Rattle.kh_io.specs.Disk.{file_of, put, IsReadAt, AreImages};
+ghost use Rattle.kh_io.specs.FileState.{state_after};
+ghost use Rattle.kh_io.specs.Replay.{IsFilled, AreFilled};
+ghost use Rattle.kh_io.specs.Recording.{Recording, left_after, given_in, seen_after, image_after, noted, HasRoom, is_idle};
 
 use crate::contents::Contents;
 use crate::journal::{Entry, Journal};
-use crate::{Files, NoMemory, room};
+use crate::{FileBytes, Files, NoMemory, room};
 use std::alloc::Global;
 use std::marker::Model;
 
 /// The calls of a host so far, with what they made of its input, its sink and its files.
 #[derive(Drop)]
 pub struct Recorder {
+    alloc: Global,
     input: Vec<u8>,
     taken: usize,
     output: Vec<u8>,
@@ -61,6 +64,7 @@ impl Recorder {
         let output = Vec::with_capacity(alloc, room as usize)?;
         let contents = Contents::new(alloc, &first, room)?;
         Ok(Recorder {
+            alloc,
             input,
             taken: 0,
             output,
@@ -208,5 +212,36 @@ impl Recorder {
             &[],
         );
         self.contents.cut(file, len as usize);
+    }
+
+    // One file of a crash image.
+    fn file_image(
+        &self,
+        calls: usize,
+        file: u8,
+        first: &[u8],
+        fill: Option<u8>,
+    ) -> Result<FileBytes, NoMemory>
+        requires calls { calls ≤ length self.now.calls }
+        requires first { first.now ≡ file_of self.now.first file }
+        ensures { IfOk result (λ bytes. IsFilled (state_after file self.now.first (take calls self.now.calls)) fill bytes) }
+    {
+        let replay = self.journal.replay(self.alloc, calls, first, file)?;
+        Ok(replay.filled(fill))
+    }
+
+    /// The crash image after the first calls in which each file has the length that a read finds then, and each byte
+    /// that isn't yet safe is as written, or this byte.
+    pub fn image(&self, calls: usize, fill: Option<u8>) -> Result<Files, NoMemory>
+        requires { calls ≤ length self.now.calls }
+        ensures filled { IfOk result (AreFilled self.now.first (take calls self.now.calls) fill) }
+        ensures image { IfOk result (AreImages (image_after self.now.first (take calls self.now.calls))) }
+    {
+        Ok(Files {
+            s0: self.file_image(calls, 0, self.first.s0.as_slice(), fill)?,
+            l0: self.file_image(calls, 1, self.first.l0.as_slice(), fill)?,
+            s1: self.file_image(calls, 2, self.first.s1.as_slice(), fill)?,
+            l1: self.file_image(calls, 3, self.first.l1.as_slice(), fill)?,
+        })
     }
 }

@@ -1,9 +1,10 @@
 //! A host in memory without faults.
 ghost use Rattle.std.specs.Prelude.{◌≡◌, ◌⊎◌, ◌<◌, ◌≤◌, ◌+◌, ◌^◌, true, false, length, take, Some, None, Ok, IfOk, IsTrue, IsFalse};
 ghost use Rattle.kh_io.specs.Call.{Take, Give, Len, ReadAt, WriteAt, Cut, Sync};
-ghost use Rattle.kh_io.specs.Disk.{IsReadAt};
+ghost use Rattle.kh_io.specs.Disk.{IsReadAt, AreImages};
+ghost use Rattle.kh_io.specs.Replay.{AreFilled};
 ghost use Rattle.kh_io.specs.Memory.{blank, take_len, read_len};
-ghost use Rattle.kh_io.specs.Recording.{left_after, given_in, seen_after, HasRoom};
+ghost use Rattle.kh_io.specs.Recording.{left_after, given_in, seen_after, image_after, HasRoom};
 
 use crate::journal::Entry;
 use crate::recorder::{Recorder, read_count};
@@ -50,6 +51,16 @@ impl SoundHost {
         ensures { result.now ≡ given_in self.now.tape.calls }
     {
         self.recorder.output()
+    }
+
+    /// The crash image after the first calls in which each file has the length that a read finds then, and each byte
+    /// that isn't yet safe is as written, or this byte.
+    pub fn image(&self, calls: u64, fill: Option<u8>) -> Result<Files, NoMemory>
+        requires { calls ≤ length self.now.tape.calls }
+        ensures filled { IfOk result (AreFilled self.now.tape.first (take calls self.now.tape.calls) fill) }
+        ensures image { IfOk result (AreImages (image_after self.now.tape.first (take calls self.now.tape.calls))) }
+    {
+        self.recorder.image(calls as usize, fill)
     }
 }
 
