@@ -1,5 +1,7 @@
 pub mod Calls
 pub mod Lists
+pub mod Moments
+pub mod Telling
 pub mod Images
 pub mod Recordings
 pub mod Replays

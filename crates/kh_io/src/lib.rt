@@ -19,3 +19,6 @@ pub use host::{Disk, Host};
 pub use memory::MemoryHost;
 pub use real::RealHost;
 pub use sound::SoundHost;
+
+#[cfg(test)]
+mod tests;

@@ -69,6 +69,13 @@ impl MemoryHost {
         self.recorder.output()
     }
 
+    /// The number of calls made, without those past the room.
+    pub fn calls(&self) -> u64
+        ensures { result ≡ length self.now.tape.calls }
+    {
+        self.recorder.calls() as u64
+    }
+
     /// The crash image after the first calls in which each file has the length that a read finds then, and each byte
     /// that isn't yet safe is as written, or this byte.
     pub fn image(&self, calls: u64, fill: Option<u8>) -> Result<Files, NoMemory>
