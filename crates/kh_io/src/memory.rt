@@ -3,7 +3,6 @@ ghost use Rattle.std.specs.Prelude.{◌≡◌, ◌<◌, ◌≤◌, ◌+◌, ◌^
 ghost use Rattle.kh_io.specs.Call.{failed, Take, Give, Len, ReadAt, WriteAt, Cut, Sync};
 ghost use Rattle.kh_io.specs.Disk.{IsReadAt, AreImages};
 ghost use Rattle.kh_io.specs.Replay.{AreFilled};
-
 ghost use Rattle.kh_io.specs.Recording.{left_after, given_in, seen_after, image_after, left_since, HasRoom};
 
 use crate::journal::Entry;
@@ -33,8 +32,13 @@ impl Model for MemoryHost {
     ghost Value = { Memory };
 
     ghost view = { λ h. record {
-        tape = h.recorder; tells = h.tells; failing = h.failing.items;
-        disk_faults = h.disk_faults; read_faults = h.read_faults; write_faults = h.write_faults } };
+      tape = h.recorder;
+      tells = h.tells;
+      failing = h.failing.items;
+      disk_faults = h.disk_faults;
+      read_faults = h.read_faults;
+      write_faults = h.write_faults;
+    } };
 }
 
 impl MemoryHost {
