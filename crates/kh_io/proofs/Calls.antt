@@ -1,12 +1,12 @@
 -- The calls that entries and their bytes stand for.
-use Rattle.std.proofs.Common.{ℕ, ◌≡◌, ◌+◌, ◌*◌, ◌≤◌, List, [], ◌∷◌, ◌++◌, Some, None, length, take, drop, sum_by, refl, sym, ◌∙◌, arith, length-drop}
+use Rattle.std.proofs.Common.{ℕ, zero, suc, ◌≡◌, ◌+◌, ◌*◌, ◌≤◌, List, [], ◌∷◌, ◌++◌, Some, None, length, take, drop, sum_by, refl, ap, sym, ◌∙◌, arith, length-drop}
 use Rattle.std.proofs.lemmas.List.{take-append-le, drop-append-le, length-take-le}
 use Rattle.std.proofs.Math.Seq.{take-length}
 use Rattle.std.proofs.lemmas.List.Sums.{sum_by-cons}
 use Rattle.kh_io.specs.Call.{moved, cost}
 use Rattle.kh_io.specs.Entry.{byte_count, call_of, calls_of}
 use Rattle.kh_io.specs.declared.journal.Entry.{Entry}
-use Rattle.kh_io.specs.declared.journal.Entry.TheVariants.{Taken, Given}
+use Rattle.kh_io.specs.declared.journal.Entry.TheVariants.{Taken, Given, Asked, Read, Written, CutTo, Synced}
 
 -- each entry is a call
 pub length-calls_of : (es : List Entry) (bs : List ℕ) → length (calls_of es bs) ≡ length es
@@ -18,6 +18,12 @@ pub moved-call_of : (e : Entry) (bs : List ℕ) → byte_count e ≡ length bs �
 moved-call_of (Taken asked (Some n)) bs h = sym h
 moved-call_of (Taken asked None) bs h = refl
 moved-call_of (Given len count) bs h = sym h
+moved-call_of (Asked file len) bs h = refl
+moved-call_of (Read file at asked (Some n)) bs h = sym h
+moved-call_of (Read file at asked None) bs h = refl
+moved-call_of (Written file at len done) bs h = sym h
+moved-call_of (CutTo file len done) bs h = refl
+moved-call_of (Synced file done) bs h = refl
 
 -- the calls move the bytes
 pub moved-calls_of : (es : List Entry) (bs : List ℕ) → sum_by byte_count es ≡ length bs → sum_by moved (calls_of es bs) ≡ length bs
@@ -48,3 +54,9 @@ calls_of-push (x ∷ es) bs e b sum h =
     let le : byte_count x ≤ length bs = omega (arith, both) in
     let rest : sum_by byte_count es ≡ length (drop (byte_count x) bs) = rw length-drop (omega (arith, both)) in
     rw (take-append-le (byte_count x) bs b le, drop-append-le (byte_count x) bs b le, calls_of-push es (drop (byte_count x) bs) e b rest h) refl
+
+-- the first entries are the first calls
+pub calls_of-take : (n : ℕ) (es : List Entry) (bs : List ℕ) → calls_of (take n es) bs ≡ take n (calls_of es bs)
+calls_of-take zero es bs = refl
+calls_of-take (suc n) [] bs = refl
+calls_of-take (suc n) (e ∷ es) bs = ap (λ cs. call_of e (take (byte_count e) bs) ∷ cs) (calls_of-take n es (drop (byte_count e) bs))

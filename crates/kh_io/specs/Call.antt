@@ -1,13 +1,27 @@
 -- The calls of a host, as its journal lists them.
-use Rattle.std.specs.Prelude.{ℕ, ◌+◌, ◌*◌, List, length, sum_by, Option, Some, None, Result, Ok, Err, take}
+use Rattle.std.specs.Prelude.{ℕ, ◌+◌, ◌*◌, Bool, List, length, sum_by, Option, Some, None, Result, Ok, Err, take}
 use Rattle.kh_io.specs.declared.failed.Failed.{Failed}
 
--- a call of a host with its arguments and its answer, which is `None` where the call failed
+-- a call of a host with its arguments and its answer, which is `None` or `false` where the call failed
 pub data Call : Type 0 where
   -- the buffer's length, and the bytes that were given
   Take : ℕ → Option (List ℕ) → Call
   -- the piece, and how many of its first bytes were taken
   Give : List ℕ → Option ℕ → Call
+  -- the file, and its length
+  Len : ℕ → Option ℕ → Call
+  -- the file, the place, the buffer's length, and the bytes that were read
+  ReadAt : ℕ → ℕ → ℕ → Option (List ℕ) → Call
+  -- the file, the place and the bytes, and whether they were written
+  WriteAt : ℕ → ℕ → List ℕ → Bool → Call
+  -- the file and the length, and whether it was cut
+  Cut : ℕ → ℕ → Bool → Call
+  -- the file, and whether it was synced
+  Sync : ℕ → Bool → Call
+
+-- the one error of a call
+abbrev pub failed : Failed
+failed = record {}
 
 -- the answer of a call, as the journal has it
 abbrev pub answer : {A : Type 0} → Result A Failed → Option A
@@ -28,6 +42,11 @@ answered_len (Some bytes) = length bytes
 abbrev pub moved : Call → ℕ
 moved (Take asked bytes) = answered_len bytes
 moved (Give piece taken) = length piece
+moved (Len file len) = 0
+moved (ReadAt file at asked bytes) = answered_len bytes
+moved (WriteAt file at bytes done) = length bytes
+moved (Cut file len done) = 0
+moved (Sync file done) = 0
 
 -- what calls take of a room: 64 for each, and one for each byte that they move
 abbrev pub cost : List Call → ℕ

@@ -1,6 +1,13 @@
 pub mod Call
 pub mod Told
 pub mod Host
-pub mod Entry
+pub mod Disk
 pub mod Kept
+pub mod Contents
 pub mod Memory
+pub mod Replay
+pub mod Sound
+pub mod Laws
+pub mod Entry
+pub mod FileState
+pub mod Recording

@@ -1,80 +1,76 @@
 -- A host in memory, whose calls fail where they are listed.
-use Rattle.std.specs.Prelude.{ℕ, ◌+◌, ◌-◌, ◌^◌, min, Bool, true, false, if◌then◌else◌, List, [], ◌∷◌, ◌++◌, length, take, drop, Option, Some, None, ◌==◌}
+use Rattle.std.specs.Prelude.{◌≡◌, ℕ, ◌+◌, ◌-◌, ◌<◌, ◌^◌, min, Bool, true, false, if◌then◌else◌, List, [], length, Option, Some, None, ◌==◌, nat_lt}
 use Rattle.std.specs.List.{list_any}
-use Rattle.kh_io.specs.Call.{Call, Take, Give}
-use Rattle.kh_io.specs.Kept.{Fits}
+use Rattle.kh_io.specs.declared.files.Files.{Files}
+use Rattle.kh_io.specs.Call.{Call}
+use Rattle.kh_io.specs.Recording.{Recording, left_after, seen_after, noted}
 
 pub record Memory : Type 0 where
-  -- the input that is left
-  pub left : List ℕ
-  -- what the sink has taken
-  pub given : List ℕ
-  -- the calls so far
-  pub calls : List Call
+  -- the input, the files and the calls so far
+  pub tape : Recording
   -- whether these are all calls: none was past the room
   pub tells : Bool
   -- the numbers of the calls that fail, counted from 0
   pub failing : List ℕ
-  pub room : ℕ
+  pub disk_faults : ℕ
   pub read_faults : ℕ
   pub write_faults : ℕ
 
+-- a recording before the first call
+abbrev pub blank : List ℕ → Files → ℕ → Recording
+blank input first room = record { input = input; first = first; calls = []; room = room }
+
 -- a host before its first call
-abbrev pub fresh : List ℕ → List ℕ → ℕ → Memory
-fresh input failing room = record {
-  left = input;
-  given = [];
-  calls = [];
+abbrev pub fresh : List ℕ → Files → List ℕ → ℕ → Memory
+fresh input first failing room = record {
+  tape = blank input first room;
   tells = true;
   failing = failing;
-  room = room;
+  disk_faults = 0;
   read_faults = 0;
   write_faults = 0;
 }
 
 -- its journal: all its calls, while none was past the room
 abbrev pub journal_of : Memory → Option (List Call)
-journal_of m = if m.tells then Some m.calls else None
+journal_of m = if m.tells then Some m.tape.calls else None
 
 -- the next call is listed
 abbrev pub is_listed : Memory → Bool
-is_listed m = list_any (λ k. k == length m.calls) m.failing
+is_listed m = list_any (λ k. k == length m.tape.calls) m.failing
 
--- the next call is within the room if it moves n bytes
-abbrev pub HasRoom : Memory → ℕ → Type 0
-HasRoom m n = Fits m.calls m.room n
+-- with one more call
+abbrev pub add_call : Memory → Call → Memory
+add_call m call = record m { tape = noted m.tape call }
 
--- one fault more, while the count has room to rise
+-- after a call past the room, which isn't numbered
+abbrev pub stopped : Memory → Memory
+stopped m = record m { tells = false }
+
+-- one more, while there is room to rise
 abbrev pub one_more : ℕ → ℕ
-one_more count = min (count + 1) (2 ^ 64 - 1)
+one_more count = if nat_lt count (2 ^ 64 - 1) then count + 1 else count
 
--- how many bytes the next `take` moves
-abbrev pub take_len : Memory → ℕ → ℕ
-take_len m asked = if is_listed m then 0 else min asked (length m.left)
+-- with one more fault of the disk, of a `take`, of a `give`
+abbrev pub disk_fault : Memory → Memory
+disk_fault m = record m { disk_faults = one_more m.disk_faults }
 
--- after a listed `take`
-abbrev pub failed_take : Memory → ℕ → Memory
-failed_take m asked = record m { calls = m.calls ++ Take asked None ∷ []; read_faults = one_more m.read_faults }
+abbrev pub read_fault : Memory → Memory
+read_fault m = record m { read_faults = one_more m.read_faults }
 
--- after a `take` that isn't listed: it gives as many bytes as the buffer has room for and the input has
-abbrev pub done_take : Memory → ℕ → Memory
-done_take m asked = record m {
-  calls = m.calls ++ Take asked (Some (take (min asked (length m.left)) m.left)) ∷ [];
-  left = drop (min asked (length m.left)) m.left;
-}
+abbrev pub write_fault : Memory → Memory
+write_fault m = record m { write_faults = one_more m.write_faults }
 
--- after a `take` past the room
-abbrev pub refused_take : Memory → Memory
-refused_take m = record m { tells = false; read_faults = one_more m.read_faults }
+-- how many bytes the next `take` moves: as many as the buffer holds and the input has, and none where it fails
+abbrev pub take_len : Recording → ℕ → ℕ
+take_len r asked = min asked (length (left_after r.input r.calls))
 
--- after a listed `give`
-abbrev pub failed_give : Memory → List ℕ → Memory
-failed_give m piece = record m { calls = m.calls ++ Give piece None ∷ []; write_faults = one_more m.write_faults }
+abbrev pub take_moves : Memory → ℕ → ℕ
+take_moves m asked = if is_listed m then 0 else take_len m.tape asked
 
--- after a `give`, which adds the whole piece
-abbrev pub done_give : Memory → List ℕ → Memory
-done_give m piece = record m { calls = m.calls ++ Give piece (Some (length piece)) ∷ []; given = m.given ++ piece }
+-- how many bytes the next `read_at` moves
+abbrev pub read_len : Recording → ℕ → ℕ → ℕ → ℕ
+read_len r file at asked = min asked (length (seen_after r.first r.calls file) - at)
 
--- after a `give` past the room
-abbrev pub refused_give : Memory → Memory
-refused_give m = record m { tells = false; write_faults = one_more m.write_faults }
+abbrev pub read_moves : Memory → ℕ → ℕ → ℕ → ℕ
+read_moves m file at asked = if is_listed m then 0 else read_len m.tape file at asked

@@ -27,7 +27,8 @@ Rose old new = old < 2 ^ 64 - 1 → old < new
 abbrev pub IsFrontOf : {A : Type 0} → List A → List A → Type 0
 IsFrontOf {A} front whole = (rest : List A) × (whole ≡ front ++ rest)
 
--- how often a host has failed
+-- how often the disk, a `take` and a `give` of a host have failed
 pub record Faults : Type 0 where
+  pub disk : ℕ
   pub reads : ℕ
   pub writes : ℕ

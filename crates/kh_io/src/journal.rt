@@ -1,7 +1,8 @@
 //! The calls of a host in memory, with the bytes that they move.
-ghost use Rattle.std.specs.Prelude.{◌≡◌, ◌+◌, ◌*◌, ◌/◌, ◌<◌, ◌≤◌, ◌↔◌, ℕ, List, [], ◌∷◌, ◌++◌, length, IfOk, IsTrue, vec_len, vec_capacity, sum_by};
+ghost use Rattle.std.specs.Prelude.{◌≡◌, ◌+◌, ◌*◌, ◌/◌, ◌<◌, ◌≤◌, ◌↔◌, ℕ, List, [], ◌∷◌, ◌++◌, length, IfOk, IsTrue, vec_len, vec_capacity, sum_by, fold, take};
 ghost use Rattle.kh_io.specs.Kept.{Kept, Fits};
 
+use crate::replay::{self, Replay};
 use crate::{NoMemory, room};
 use std::alloc::Global;
 use std::marker::Model;
@@ -12,8 +13,54 @@ const PER_CALL: u64 = 64;
 /// A call without its bytes.
 #[derive(Clone, Copy)]
 pub enum Entry {
-    Taken { asked: usize, count: Option<usize> },
-    Given { len: usize, count: Option<usize> },
+    Taken {
+        asked: usize,
+        count: Option<usize>,
+    },
+    Given {
+        len: usize,
+        count: Option<usize>,
+    },
+    Asked {
+        file: u8,
+        len: Option<u64>,
+    },
+    Read {
+        file: u8,
+        at: u64,
+        asked: usize,
+        count: Option<usize>,
+    },
+    Written {
+        file: u8,
+        at: u64,
+        len: usize,
+        done: bool,
+    },
+    CutTo {
+        file: u8,
+        len: u64,
+        done: bool,
+    },
+    Synced {
+        file: u8,
+        done: bool,
+    },
+}
+
+impl Entry {
+    ghost use Rattle.kh_io.specs.Entry.{byte_count};
+
+    /// How many bytes belong to the entry.
+    pub fn bytes(&self) -> usize
+        ensures { result ≡ byte_count self.now }
+    {
+        match *self {
+            Entry::Taken { count, .. } | Entry::Read { count, .. } => count.unwrap_or(0),
+            Entry::Given { len, .. } | Entry::Written { len, .. } => len,
+            Entry::Asked { .. } | Entry::CutTo { .. } | Entry::Synced { .. } => 0,
+        }
+    }
 }
 
 /// The calls so far, and room for more.
@@ -42,6 +89,8 @@ impl Model for Journal {
 
 impl Journal {
     ghost use Rattle.kh_io.specs.Entry.{byte_count, call_of};
+    ghost use Rattle.kh_io.specs.FileState.{synced, after};
+    ghost use Rattle.kh_io.specs.Replay.{Shows};
 
     /// An empty journal, which takes the memory of its room.
     pub fn new(alloc: Global, room: u64) -> Result<Journal, NoMemory>
@@ -80,5 +129,19 @@ impl Journal {
     {
         self.entries.push_reserved(entry);
         room::append(&mut self.bytes, bytes);
+    }
+
+    /// A file of these bytes after the first calls.
+    pub fn replay(
+        &self,
+        alloc: Global,
+        calls: usize,
+        first: &[u8],
+        file: u8,
+    ) -> Result<Replay, NoMemory>
+        requires { calls ≤ length self.now.calls }
+        ensures { IfOk result (λ r. Shows (fold (after file) (synced first.now) (take calls self.now.calls)) r) }
+    {
+        replay::replayed(alloc, first, &self.entries[..calls], &self.bytes, file)
     }
 }

@@ -1,19 +1,24 @@
 //! The outside of the store: a trait for the input, the output and the files, and what stands for it.
 #![tactic(auto)]
 
+mod contents;
 mod failed;
 mod files;
 mod host;
 mod journal;
 mod memory;
 mod real;
+mod recorder;
+mod replay;
 mod room;
+mod sound;
 
 pub use failed::{Failed, NoMemory};
 pub use files::{FileBytes, Files};
-pub use host::Host;
+pub use host::{Disk, Host};
 pub use memory::MemoryHost;
 pub use real::RealHost;
+pub use sound::SoundHost;
 
 #[cfg(test)]
 mod tests;

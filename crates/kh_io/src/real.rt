@@ -1,19 +1,29 @@
-//! The host of a process: its standard streams.
-ghost use Rattle.std.specs.Prelude.{◌≡◌, ◌<◌, ◌≤◌, length, None, IfSome};
+//! The host of a process: its standard streams, and four files of the working folder.
+ghost use Rattle.std.specs.Prelude.{◌≡◌, ◌<◌, ◌≤◌, length, None, Ok, IfOk, OnOk, OnErr};
+ghost use Rattle.kh_io.specs.Told.{Rose};
 
-use crate::{Failed, Host};
-use std::io::{self, ErrorKind, Read, Write};
+use crate::{Disk, Failed, Host};
+use std::fs::{self, OpenFile, OpenOptions};
+use std::io::{self, ErrorKind, Read, Seek, SeekFrom, Write};
 use std::marker::Model;
-use std::rt::Runtime;
+use std::rt::{Files, Runtime};
 
 /// How often a call that a signal has interrupted is tried.
 const TRIES: u32 = 1000;
 
-/// The standard streams of a process. It tells nothing of what they hold.
+/// The standard streams of a process, and the files `khepri.s0`, `khepri.l0`, `khepri.s1` and `khepri.l1` of the
+/// working folder, which are opened or made at their first use. It tells nothing of what they hold.
 #[derive(Drop)]
 pub struct RealHost<R: Runtime> {
     rt: R,
     input: R::Reader,
+    s0: Option<R::File>,
+    l0: Option<R::File>,
+    s1: Option<R::File>,
+    l1: Option<R::File>,
+    /// Which files were made, in a folder that has not been synced since.
+    made: [bool; 4],
+    disk_faults: u64,
     read_faults: u64,
     write_faults: u64,
 }
@@ -23,77 +33,277 @@ impl<R: Runtime> Model for RealHost<R> {
 
     ghost Value = { Faults };
 
-    ghost view = { λ h. record { reads = h.read_faults; writes = h.write_faults } };
+    ghost view = { λ h. record { disk = h.disk_faults; reads = h.read_faults; writes = h.write_faults } };
 }
 
 impl<R: Runtime> RealHost<R> {
-    /// A host over the streams of this runtime.
+    /// A host over the streams and the working folder of this runtime.
     pub fn new(rt: R) -> RealHost<R>
-        ensures { result ≡ record { reads = 0; writes = 0 } }
+        ensures { result ≡ record { disk = 0; reads = 0; writes = 0 } }
     {
         let input = rt.reader();
         RealHost {
             rt,
             input,
+            s0: None,
+            l0: None,
+            s1: None,
+            l1: None,
+            made: [false; 4],
+            disk_faults: 0,
             read_faults: 0,
             write_faults: 0,
         }
     }
+
+    // Takes a file out of the host, opened.
+    fn opened(&mut self, file: u8) -> io::Result<R::File>
+        requires { file < 4 }
+        ensures { self.new ≡ self.old }
+    {
+        let kept = match file {
+            0 => self.s0.take(),
+            1 => self.l0.take(),
+            2 => self.s1.take(),
+            _ => self.l1.take(),
+        };
+        if let Some(opened) = kept {
+            return Ok(opened);
+        }
+        let (opened, made) = open(&self.rt, name(file))?;
+        if made {
+            self.made[file as usize] = true;
+        }
+        Ok(opened)
+    }
+
+    // Puts an opened file back.
+    fn keep(&mut self, file: u8, opened: R::File)
+        ensures { self.new ≡ self.old }
+    {
+        match file {
+            0 => self.s0 = Some(opened),
+            1 => self.l0 = Some(opened),
+            2 => self.s1 = Some(opened),
+            _ => self.l1 = Some(opened),
+        }
+    }
+
+    // The answer of a call of the disk, with a fault where it failed.
+    fn answer<T>(&mut self, answer: io::Result<T>) -> Result<T, Failed>
+        ensures ok { OnOk result (self.new ≡ self.old) }
+        ensures err { OnErr result (Rose self.old.disk self.new.disk) }
+        ensures stands { self.old.disk ≤ self.new.disk }
+        ensures reads { self.new.reads ≡ self.old.reads }
+        ensures writes { self.new.writes ≡ self.old.writes }
+        ensures value { IfOk result (λ v. answer ≡ Ok v) }
+    {
+        match answer {
+            Ok(value) => Ok(value),
+            Err(_) => {
+                self.disk_faults = self.disk_faults.saturating_add(1);
+                Err(Failed)
+            }
+        }
+    }
+
+    fn file_len(&mut self, file: u8) -> io::Result<u64>
+        requires { file < 4 }
+        ensures { self.new ≡ self.old }
+    {
+        let opened = self.opened(file)?;
+        let len = opened.metadata()?.len();
+        self.keep(file, opened);
+        Ok(len)
+    }
+
+    fn read_file(&mut self, file: u8, at: u64, into: &mut [u8]) -> io::Result<usize>
+        requires { file < 4 }
+        ensures host { self.new ≡ self.old }
+        ensures within { IfOk result (λ n. n ≤ length into.new) }
+    {
+        let mut opened = self.opened(file)?;
+        opened.seek(SeekFrom::Start(at))?;
+        let count = fill(&mut opened, into)?;
+        self.keep(file, opened);
+        Ok(count)
+    }
+
+    fn write_file(&mut self, file: u8, at: u64, bytes: &[u8]) -> io::Result<()>
+        requires { file < 4 }
+        ensures { self.new ≡ self.old }
+    {
+        let mut opened = self.opened(file)?;
+        opened.seek(SeekFrom::Start(at))?;
+        opened.write_all(bytes)?;
+        self.keep(file, opened);
+        Ok(())
+    }
+
+    fn cut_file(&mut self, file: u8, len: u64) -> io::Result<()>
+        requires { file < 4 }
+        ensures { self.new ≡ self.old }
+    {
+        let opened = self.opened(file)?;
+        opened.set_len(len)?;
+        self.keep(file, opened);
+        Ok(())
+    }
+
+    fn sync_file(&mut self, file: u8) -> io::Result<()>
+        requires { file < 4 }
+        ensures { self.new ≡ self.old }
+    {
+        let opened = self.opened(file)?;
+        opened.sync_all()?;
+        if self.made[file as usize] {
+            fs::open(&self.rt, ".")?.sync_all()?;
+            self.made[file as usize] = false;
+        }
+        self.keep(file, opened);
+        Ok(())
+    }
+}
+
+// The name of a file.
+fn name(file: u8) -> &'static str {
+    match file {
+        0 => "khepri.s0",
+        1 => "khepri.l0",
+        2 => "khepri.s1",
+        _ => "khepri.l1",
+    }
+}
+
+// Opens a file, and says whether it had to be made.
+fn open<R: Files>(rt: &R, name: &str) -> io::Result<(R::File, bool)> {
+    let mut options = OpenOptions::new();
+    options.read(true).write(true);
+    match options.open(rt, name) {
+        Err(e) if e.kind() == ErrorKind::NotFound => {
+            options.create(true);
+            Ok((options.open(rt, name)?, true))
+        }
+        opened => Ok((opened?, false)),
+    }
 }
 
 // Reads once, and again where a signal came between.
-fn read_some<I: Read>(input: &mut I, into: &mut [u8]) -> Option<usize>
-    ensures { IfSome result (λ n. n ≤ length into.new) }
+fn read_some<I: Read>(input: &mut I, into: &mut [u8]) -> io::Result<usize>
+    ensures { IfOk result (λ n. n ≤ length into.new) }
 {
     for _ in 0..TRIES {
         match input.read(into) {
-            Ok(n) => return Some(n),
             Err(e) if e.kind() == ErrorKind::Interrupted => {}
-            Err(_) => return None,
+            answer => return answer,
         }
     }
-    None
+    Err(io::Error::from(ErrorKind::Interrupted))
+}
+
+// Reads until the buffer is full or the input ends.
+fn fill<I: Read>(input: &mut I, into: &mut [u8]) -> io::Result<usize>
+    ensures { IfOk result (λ n. n ≤ length into.new) }
+{
+    let mut count = 0;
+    while count < into.len() {
+        let n = read_some(input, &mut into[count..])?;
+        if n == 0 {
+            break;
+        }
+        count += n;
+    }
+    Ok(count)
 }
 
 // Writes once, and again where a signal came between.
-fn write_some<W: Write>(output: &mut W, bytes: &[u8]) -> Option<usize>
-    ensures { IfSome result (λ n. n ≤ length bytes.now) }
+fn write_some<W: Write>(output: &mut W, bytes: &[u8]) -> io::Result<usize>
+    ensures { IfOk result (λ n. n ≤ length bytes.now) }
 {
     for _ in 0..TRIES {
         match output.write(bytes) {
-            Ok(n) => return Some(n),
             Err(e) if e.kind() == ErrorKind::Interrupted => {}
-            Err(_) => return None,
+            answer => return answer,
         }
     }
-    None
+    Err(io::Error::from(ErrorKind::Interrupted))
 }
 
-impl<R: Runtime> Host for RealHost<R> {
+impl<R: Runtime> Disk for RealHost<R> {
+    ghost use Rattle.kh_io.specs.Laws.{untold_is_left, untold_images};
+
+    ghost seen = { λ _ _. None };
+
+    ghost image = { λ _ _ _. ⊥ };
+
+    ghost moment = { λ _. 0 };
+
+    ghost stamp = { λ _. 0 };
+
+    ghost left_since = { λ _ _ _ _. ⊥ };
+
     ghost left = { λ _. None };
 
     ghost given = { λ _. None };
 
     ghost journal = { λ _. None };
 
+    ghost disk_faults = { λ h. h.disk };
+
     ghost read_faults = { λ h. h.reads };
 
     ghost write_faults = { λ h. h.writes };
 
+    ghost seen_is_image = { λ _ _ bytes _ same. untold_is_left bytes same };
+
+    ghost stamp_counts = { λ _ bytes same. untold_is_left bytes same };
+
+    ghost counts_now = { λ _ _ files _ images. untold_images files images };
+
+    ghost only_now = { λ _ _ _ none. absurd none };
+
+    fn len(&mut self, file: u8) -> Result<u64, Failed> {
+        let answer = self.file_len(file);
+        self.answer(answer)
+    }
+
+    fn read_at(&mut self, file: u8, at: u64, into: &mut [u8]) -> Result<usize, Failed> {
+        let answer = self.read_file(file, at, into);
+        self.answer(answer)
+    }
+
+    fn write_at(&mut self, file: u8, at: u64, bytes: &[u8]) -> Result<(), Failed> {
+        let answer = self.write_file(file, at, bytes);
+        self.answer(answer)
+    }
+
+    fn cut(&mut self, file: u8, len: u64) -> Result<(), Failed> {
+        let answer = self.cut_file(file, len);
+        self.answer(answer)
+    }
+
+    fn sync(&mut self, file: u8) -> Result<(), Failed> {
+        let answer = self.sync_file(file);
+        self.answer(answer)
+    }
+}
+
+impl<R: Runtime> Host for RealHost<R> {
     fn take(&mut self, into: &mut [u8]) -> Result<usize, Failed> {
         match read_some(&mut self.input, into) {
-            Some(n) => Ok(n),
-            None => {
+            Ok(n) => Ok(n),
+            Err(_) => {
                 self.read_faults = self.read_faults.saturating_add(1);
                 Err(Failed)
             }
         }
     }
 
+    // The writer of a runtime keeps nothing back, so what it took has reached the stream.
     fn give(&mut self, bytes: &[u8]) -> Result<usize, Failed> {
         let taken = write_some(&mut io::writer(&self.rt), bytes);
         match taken {
-            Some(n) if n > 0 || bytes.is_empty() => Ok(n),
+            Ok(n) if n > 0 || bytes.is_empty() => Ok(n),
             _ => {
                 self.write_faults = self.write_faults.saturating_add(1);
                 Err(Failed)

@@ -1,0 +1,42 @@
+-- What is told, and counts, for the crates above: over two calls, one after the other.
+use Rattle.std.proofs.Common.{ℕ, ◌≡◌, ◌+◌, ◌-◌, ◌^◌, ◌<◌, ◌≤◌, List, [], ◌∷◌, ◌++◌, Option, Some, None, refl, sym, ap, inl, inr, ◌∙◌, arith, append_assoc}
+use Rattle.std.proofs.lemmas.Bool.{cases_lt}
+use Rattle.kh_io.specs.Told.{Told, Kept, Extends, Gains, Rose}
+
+-- what is told at exit was told at entry
+pub told_before : {A : Type 0} (P : A → A → Type 0) (old : Option A) (new : A) → Told old (Some new) P → (was : A) × (old ≡ Some was) × P was new
+told_before P (Some was) new holds = (was, refl, holds)
+told_before P None new holds = absurd holds
+
+-- a fact of what is told, where its parts are facts
+pub told_map : {A : Type 0} {P Q : A → A → Type 0} (old new : Option A) → Told old new P → ((a b : A) → P a b → Q a b) → Told old new Q
+told_map (Some a) (Some b) holds is = is a b holds
+told_map (Some a) None holds is = tt
+told_map None (Some b) holds is = absurd holds
+told_map None None holds is = tt
+
+-- a fact over two calls
+pub told_both : {A : Type 0} {P Q R : A → A → Type 0} (a b c : Option A) → Told a b P → Told b c Q → ((x y z : A) → P x y → Q y z → R x z) → Told a c R
+told_both (Some x) (Some y) (Some z) p q is = is x y z p q
+told_both None (Some y) (Some z) p q is = absurd p
+told_both a None (Some z) p q is = absurd q
+told_both (Some x) b None p q is = tt
+told_both None b None p q is = tt
+
+pub kept_both : {A : Type 0} (a b c : Option A) → Kept a b → Kept b c → Kept a c
+kept_both a b c first second = told_both a b c first second (λ x y z e f. f ∙ e)
+
+pub extends_both : {A : Type 0} (P Q R : List A → Type 0) (a b c : Option (List A)) → Extends a b P → Extends b c Q
+    → ((more later : List A) → P more → Q later → R (more ++ later)) → Extends a c R
+extends_both P Q R a b c first second is = told_both a b c first second (λ x y z p q.
+    (p.0 ++ q.0, q.1 ∙ ap (λ l. l ++ q.0) p.1 ∙ append_assoc x p.0 q.0, is p.0 q.0 p.2 q.2))
+
+-- a count that rose in one of two calls rose in both
+pub rose_first : (a b c : ℕ) → Rose a b → b ≤ c → Rose a c
+rose_first a b c rose stands = λ room. let lt : a < b = rose room in omega (arith, lt, stands)
+
+pub rose_second : (a b c : ℕ) → a ≤ b → Rose b c → b ≤ c → Rose a c
+rose_second a b c stands rose stands_too = λ room. elim (cases_lt b (2 ^ 64 - 1)) [
+  | inl lt ↦ (let more : b < c = rose lt in omega (arith, more, stands))
+  | inr full ↦ omega (arith, full, stands_too, room)
+]
