@@ -1,7 +1,7 @@
 //! A host that never fails, for tests.
 ghost use Rattle.std.specs.Prelude.{None};
 
-use kh_io::{Failed, Host};
+use kh_io::{Disk, Failed, Host};
 use std::alloc::Global;
 
 /// A host whose calls move at most so many bytes, and never fail.
@@ -38,17 +38,61 @@ impl SlowHost {
     }
 }
 
-impl Host for SlowHost {
+impl Disk for SlowHost {
+    ghost use Rattle.kh_io.specs.Laws.{untold_is_left, untold_images};
+
+    ghost seen = { λ _ _. None };
+
+    ghost image = { λ _ _ _. ⊥ };
+
+    ghost moment = { λ _. 0 };
+
+    ghost stamp = { λ _. 0 };
+
+    ghost left_since = { λ _ _ _ _. ⊥ };
+
     ghost left = { λ _. None };
 
     ghost given = { λ _. None };
 
     ghost journal = { λ _. None };
 
+    ghost disk_faults = { λ _. 0 };
+
     ghost read_faults = { λ _. 0 };
 
     ghost write_faults = { λ _. 0 };
 
+    ghost seen_is_image = { λ _ _ bytes _ same. untold_is_left bytes same };
+
+    ghost stamp_counts = { λ _ bytes same. untold_is_left bytes same };
+
+    ghost counts_now = { λ _ _ files _ images. untold_images files images };
+
+    ghost only_now = { λ _ _ _ none. absurd none };
+
+    fn len(&mut self, _file: u8) -> Result<u64, Failed> {
+        Ok(0)
+    }
+
+    fn read_at(&mut self, _file: u8, _at: u64, _into: &mut [u8]) -> Result<usize, Failed> {
+        Ok(0)
+    }
+
+    fn write_at(&mut self, _file: u8, _at: u64, _bytes: &[u8]) -> Result<(), Failed> {
+        Ok(())
+    }
+
+    fn cut(&mut self, _file: u8, _len: u64) -> Result<(), Failed> {
+        Ok(())
+    }
+
+    fn sync(&mut self, _file: u8) -> Result<(), Failed> {
+        Ok(())
+    }
+}
+
+impl Host for SlowHost {
     fn take(&mut self, into: &mut [u8]) -> Result<usize, Failed> {
         self.calls = self.calls.saturating_add(1);
         let (_, left) = self.input.split_at(self.taken.min(self.input.len()));

@@ -5,7 +5,7 @@ use Rattle.khepri.proofs.output.give_all.Given as goal
 
 abbrev pub invariant-loop-rest : goal.invariant-loop-rest
 invariant-loop-rest g l =
-    let host = g.H.Host in
+    let host = g.H.Disk in
     record {
       giving : IsGiving (host.given l.fn.host) (host.given l.host) l.fn.piece l.rest;
       no_fault : host.write_faults l.host ≡ host.write_faults l.fn.host;

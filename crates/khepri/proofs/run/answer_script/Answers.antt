@@ -16,7 +16,7 @@ not_ended s e = cc
 
 pub pieces-init : goal.pieces-init
 pieces-init g c =
-    let host = g.H.Host in
+    let host = g.H.Disk in
     record {
       run = rw (c.new-input.ensures.items, c.requires.empty) (starts (host.left c.args.host.now) (host.given c.args.host.now));
       reads = refl;
@@ -31,7 +31,7 @@ take_more-requires-clause-short g c = c.pieces.invariant.run.short
 
 pub returns-in-Err-clause-ran : goal.returns-in-Err-clause-ran
 returns-in-Err-clause-ran g c =
-    let host = g.H.Host in
+    let host = g.H.Disk in
     take_stops (host.left c.args.host.now) (host.left c.pieces.host) (host.left c.take_more.new.host)
     (host.given c.args.host.now) (host.given c.pieces.host) (host.given c.take_more.new.host)
     c.pieces.input.items c.pieces.at c.pieces.tree c.in-Err.stop (host.read_faults c.pieces.host) (host.read_faults c.take_more.new.host)
@@ -39,19 +39,19 @@ returns-in-Err-clause-ran g c =
 
 pub returns-in-Err-clause-reads : goal.returns-in-Err-clause-reads
 returns-in-Err-clause-reads g c e =
-    let host = g.H.Host in
+    let host = g.H.Disk in
     take_reads c.in-Err.stop (host.left c.pieces.host) (host.left c.take_more.new.host) c.pieces.input.items (host.read_faults c.args.host.now)
     (host.read_faults c.pieces.host) (host.read_faults c.take_more.new.host) c.in-Err.ensures.stops c.pieces.invariant.reads (same_stop c.in-Err.stop stop.ReadFault e)
 
 pub returns-in-Err-clause-writes : goal.returns-in-Err-clause-writes
 returns-in-Err-clause-writes g c e =
-    let host = g.H.Host in
+    let host = g.H.Disk in
     absurd (take_writes c.in-Err.stop (host.left c.pieces.host) (host.left c.take_more.new.host) c.pieces.input.items
     (host.read_faults c.pieces.host) (host.read_faults c.take_more.new.host) c.in-Err.ensures.stops (same_stop c.in-Err.stop stop.WriteFault e))
 
 pub serve-requires : goal.serve-requires
 serve-requires g c =
-    let host = g.H.Host in
+    let host = g.H.Disk in
     let more = took_piece (host.left c.args.host.now) (host.left c.pieces.host) (host.left c.take_more.new.host)
     (host.given c.args.host.now) (host.given c.pieces.host) (host.given c.take_more.new.host) c.pieces.input.items c.take_more.new.input.items
     c.pieces.at c.pieces.tree c.pieces.invariant.run (rw c.in-Ok-Some.field-0-is at c.in-Ok-Some.ensures.taken) c.in-Ok-Some.ensures.sink in
@@ -59,13 +59,13 @@ serve-requires g c =
 
 pub pieces-smaller : goal.pieces-smaller
 pieces-smaller g c =
-    let host = g.H.Host in
+    let host = g.H.Disk in
     took_shorter (host.left c.pieces.host) (host.left c.take_more.new.host) c.pieces.input.items c.take_more.new.input.items
     (rw c.in-Ok-Some.field-0-is at c.in-Ok-Some.ensures.taken)
 
 pub pieces-preserved : goal.pieces-preserved
 pieces-preserved g c =
-    let host = g.H.Host in
+    let host = g.H.Disk in
     let more = took_piece (host.left c.args.host.now) (host.left c.pieces.host) (host.left c.take_more.new.host)
     (host.given c.args.host.now) (host.given c.pieces.host) (host.given c.take_more.new.host) c.pieces.input.items c.take_more.new.input.items
     c.pieces.at c.pieces.tree c.pieces.invariant.run (rw c.in-Ok-Some.field-0-is at c.in-Ok-Some.ensures.taken) c.in-Ok-Some.ensures.sink in
@@ -79,7 +79,7 @@ pieces-preserved g c =
 
 pub returns-in-Err-serve-clause-ran : goal.returns-in-Err-serve-clause-ran
 returns-in-Err-serve-clause-ran g c =
-    let host = g.H.Host in
+    let host = g.H.Disk in
     let more = took_piece (host.left c.args.host.now) (host.left c.pieces.host) (host.left c.take_more.new.host)
     (host.given c.args.host.now) (host.given c.pieces.host) (host.given c.take_more.new.host) c.pieces.input.items c.take_more.new.input.items
     c.pieces.at c.pieces.tree c.pieces.invariant.run (rw c.in-Ok-Some.field-0-is at c.in-Ok-Some.ensures.taken) c.in-Ok-Some.ensures.sink in
@@ -90,13 +90,13 @@ returns-in-Err-serve-clause-ran g c =
 
 pub returns-in-Err-serve-clause-reads : goal.returns-in-Err-serve-clause-reads
 returns-in-Err-serve-clause-reads g c e =
-    let host = g.H.Host in
+    let host = g.H.Disk in
     absurd (serve_reads c.in-Err-serve.stop false (drop c.pieces.at c.as_slice.result.now) c.pieces.tree (host.given c.take_more.new.host) (host.given c.serve.new.host)
     (host.write_faults c.take_more.new.host) (host.write_faults c.serve.new.host) c.in-Err-serve.ensures.stops (same_stop c.in-Err-serve.stop stop.ReadFault e))
 
 pub returns-in-Err-serve-clause-writes : goal.returns-in-Err-serve-clause-writes
 returns-in-Err-serve-clause-writes g c e =
-    let host = g.H.Host in
+    let host = g.H.Disk in
     serve_writes c.in-Err-serve.stop false (drop c.pieces.at c.as_slice.result.now) c.pieces.tree (host.given c.take_more.new.host) (host.given c.serve.new.host)
     (host.write_faults c.args.host.now) (host.write_faults c.take_more.new.host) (host.write_faults c.serve.new.host) c.in-Err-serve.ensures.stops
     (c.in-Ok-Some.ensures.other_faults ∙ c.pieces.invariant.writes) (same_stop c.in-Err-serve.stop stop.WriteFault e)
@@ -108,7 +108,7 @@ serve-requires-2 g c =
 
 pub returns-in-Ok-serve-clause-ran : goal.returns-in-Ok-serve-clause-ran
 returns-in-Ok-serve-clause-ran g c =
-    let host = g.H.Host in
+    let host = g.H.Disk in
     let none = rw c.in-Ok-None.field-0-is at c.in-Ok-None.ensures.taken in
     let run = c.pieces.invariant.run in
     finished (host.left c.args.host.now) (host.left c.take_more.new.host) (host.left c.serve-2.new.host)
@@ -126,7 +126,7 @@ returns-in-Ok-serve-clause-writes g c e = absurd (not_ended stop.WriteFault e)
 
 pub returns-clause-ran : goal.returns-clause-ran
 returns-clause-ran g c =
-    let host = g.H.Host in
+    let host = g.H.Disk in
     let none = rw c.in-Ok-None.field-0-is at c.in-Ok-None.ensures.taken in
     let run = c.pieces.invariant.run in
     finish_stops (host.left c.args.host.now) (host.left c.take_more.new.host) (host.left c.serve-2.new.host)
@@ -138,13 +138,13 @@ returns-clause-ran g c =
 
 pub returns-clause-reads : goal.returns-clause-reads
 returns-clause-reads g c e =
-    let host = g.H.Host in
+    let host = g.H.Disk in
     absurd (serve_reads c.in-Err-serve-2.stop true (drop c.pieces.at c.as_slice-2.result.now) c.pieces.tree (host.given c.take_more.new.host) (host.given c.serve-2.new.host)
     (host.write_faults c.take_more.new.host) (host.write_faults c.serve-2.new.host) c.in-Err-serve-2.ensures.stops (same_stop c.in-Err-serve-2.stop stop.ReadFault e))
 
 pub returns-clause-writes : goal.returns-clause-writes
 returns-clause-writes g c e =
-    let host = g.H.Host in
+    let host = g.H.Disk in
     serve_writes c.in-Err-serve-2.stop true (drop c.pieces.at c.as_slice-2.result.now) c.pieces.tree (host.given c.take_more.new.host) (host.given c.serve-2.new.host)
     (host.write_faults c.args.host.now) (host.write_faults c.take_more.new.host) (host.write_faults c.serve-2.new.host) c.in-Err-serve-2.ensures.stops
     (c.in-Ok-None.ensures.other_faults ∙ c.pieces.invariant.writes) (same_stop c.in-Err-serve-2.stop stop.WriteFault e)

@@ -5,7 +5,7 @@ use Rattle.khepri.proofs.run.answer_script.Given as goal
 
 abbrev pub invariant-pieces : goal.invariant-pieces
 invariant-pieces g l =
-    let host = g.H.Host in
+    let host = g.H.Disk in
     record {
       run : IsRunning (host.left l.fn.host) (host.left l.host) (host.given l.fn.host) (host.given l.host) l.input.items l.at l.tree;
       reads : host.read_faults l.host ≡ host.read_faults l.fn.host;

@@ -6,7 +6,7 @@ use Rattle.khepri.proofs.session.serve.Goals as goal
 
 pub returns-in-Err-answer-clause-stops : goal.returns-in-Err-answer-clause-stops
 returns-in-Err-answer-clause-stops g c =
-    let host = g.H.Host in
+    let host = g.H.Disk in
     let line = rw c.in-Ok-Form.field-0-is at c.in-Ok-Form.ensures in
     no_reply c.args.is_end (drop c.args.at c.args.input.now) (drop c.lines.place c.args.input.now) (drop c.in-Ok-Form.next c.args.input.now)
     c.args.tree.now c.lines.tree c.in-Ok-Form.form (host.given c.args.host.now) (host.given c.lines.host) (host.given c.answer.new.host)
@@ -15,7 +15,7 @@ returns-in-Err-answer-clause-stops g c =
 
 pub lines-preserved : goal.lines-preserved
 lines-preserved g c =
-    let host = g.H.Host in
+    let host = g.H.Disk in
     let before = c.lines.invariant in
     let call = c.in_default.ensures in
     let line = rw c.in-Ok-Form.field-0-is at c.in-Ok-Form.ensures in
@@ -40,13 +40,13 @@ returns-in-Ok-End-clause-served g c =
 
 pub returns-in-Ok-Fault-clause-stops : goal.returns-in-Ok-Fault-clause-stops
 returns-in-Ok-Fault-clause-stops g c =
-    let host = g.H.Host in
+    let host = g.H.Disk in
     to_fault c.args.is_end (drop c.args.at c.args.input.now) (drop c.lines.place c.args.input.now) c.args.tree.now c.lines.tree
     (host.given c.args.host.now) (host.given c.lines.host) c.lines.invariant.given (rw c.in-Ok-Fault.field-0-is at c.in-Ok-Fault.ensures)
 
 pub returns-then-is_end-clause-stops : goal.returns-then-is_end-clause-stops
 returns-then-is_end-clause-stops g c =
-    let host = g.H.Host in
+    let host = g.H.Disk in
     let line = rw c.in-Ok-Unfinished.field-0-is at c.in-Ok-Unfinished.ensures in
     to_cut c.args.is_end (drop c.args.at c.args.input.now) (drop c.lines.place c.args.input.now) c.args.tree.now c.lines.tree
     (host.given c.args.host.now) (host.given c.lines.host) c.if-is_end.true c.lines.invariant.given
@@ -64,6 +64,6 @@ returns-else-is_end-clause-served g c =
 
 pub returns-in-Err-clause-stops : goal.returns-in-Err-clause-stops
 returns-in-Err-clause-stops g c =
-    let host = g.H.Host in
+    let host = g.H.Disk in
     to_front c.args.is_end (drop c.args.at c.args.input.now) (drop c.lines.place c.args.input.now) c.args.tree.now c.lines.tree
     (host.given c.args.host.now) (host.given c.lines.host) c.lines.invariant.given

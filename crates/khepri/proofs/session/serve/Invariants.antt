@@ -5,7 +5,7 @@ use Rattle.khepri.proofs.session.serve.Given as goal
 
 abbrev pub invariant-lines : goal.invariant-lines
 invariant-lines g l =
-    let host = g.H.Host in
+    let host = g.H.Disk in
     record {
       within : l.place ≤ length l.fn.input;
       given : SoFar l.fn.is_end (drop l.fn.at l.fn.input) (drop l.place l.fn.input) l.fn.tree l.tree (host.given l.fn.host) (host.given l.host);
