@@ -18,6 +18,7 @@ use Rattle.kh_read.specs.declared.form.Form.TheVariants as form
 use Rattle.kh_read.specs.Form.{is_plain_name, is_plain_path, are_digits, IsInteger, IsForm}
 use Rattle.kh_read.specs.Reading.{◌>>=◌, Read, Fault, front_at, word_at, name_at, names_at, digits_at, integer_at, put_at, get_at, form_at}
 use Rattle.kh_read.proofs.Digits.{both, digits_are, all_digits-list_all}
+use Rattle.kh_read.proofs.Words.{lowercase_word}
 use Rattle.kh_read.proofs.FormRead.{put_text-append, get_text-append}
 
 -- a front ends at a byte that doesn't pass
@@ -35,9 +36,7 @@ front_again test most text end rest each few stops =
     let behind : eqb (length text) (length (text ++ end ∷ rest)) ≡ false = ne_eqb _ _ (λ e. absurd (omega (arith, length-append text (end ∷ rest)))) in
     rw (front_len test text end rest each stops, le-ltb _ _ few, behind, take_at text (end ∷ rest) (length text) refl, drop_at text (end ∷ rest) (length text) refl) refl
 
-small_is_word : (byte : ℕ) → is_ascii_lowercase byte ≡ true → is_word_byte byte ≡ true
-small_is_word byte h = grind (arith, nat_tests)
-
+-- the byte behind a word is no digit, and a digit is no minus sign
 no_digit : (byte : ℕ) → is_word_byte byte ≡ false → is_ascii_digit byte ≡ false
 no_digit byte h = grind (arith, nat_tests)
 
@@ -57,7 +56,7 @@ word_again [] end rest plain few stops = absurd cc
 word_again (first ∷ others) end rest plain few stops =
     let parts = both (is_plain_word (first ∷ others)) (not (is_reserved (first ∷ others))) plain in
     let word = both (is_ascii_lowercase first) (list_all is_word_byte others) parts.0 in
-    let each : list_all is_word_byte (first ∷ others) ≡ true = rw (small_is_word first word.0) word.1 in
+    let each : list_all is_word_byte (first ∷ others) ≡ true = rw (lowercase_word first word.0) word.1 in
     let free : is_reserved (first ∷ others) ≡ false = not-true _ parts.1 in
     word_step (is_ascii_lowercase first) (front_at is_word_byte 255 ((first ∷ others) ++ end ∷ rest)) (first ∷ others, end ∷ rest) word.0
     (front_again is_word_byte 255 (first ∷ others) end rest each few stops) free

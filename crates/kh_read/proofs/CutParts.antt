@@ -5,7 +5,7 @@ use Rattle.std.specs.Char.{is_ascii_digit, is_ascii_lowercase}
 use Rattle.std.specs.List.{prefix_len, list_all, list_any}
 use Rattle.std.specs.Str.{bytes_eq}
 use Rattle.std.specs.Str.Parse.{digits_value}
-use Rattle.std.proofs.lemmas.Bool.{ltb-false, leb-true, eqb-true, or_from, and_left, and_right, not-true}
+use Rattle.std.proofs.lemmas.Bool.{ltb-false, leb-true, eqb-true, or_from, and_left, and_right, not-true, not-false}
 use Rattle.std.proofs.lemmas.List.{take_all}
 use Rattle.std.proofs.lemmas.List.Folds.{list_all-append}
 use Rattle.std.proofs.lemmas.Slice.Eq.{bytes_eq-Decides}
@@ -48,17 +48,20 @@ tested_cut test (Ok x) cut = absurd (not_tested (test x.0) x cut)
 tested_cut test (Err Cut) cut = refl
 tested_cut test (Err Fault) cut = cut
 
--- a word that doesn't have `_` doesn't end in it
-other_word : (text word : List ℕ) → list_all (λ b. not (eqb 95 b)) word ≡ true → bytes_eq (text ++ 95 ∷ []) word ≡ false
-other_word [] [] free = refl
-other_word [] (b ∷ word) free = and_left _ _ (not-true _ (both (not (eqb 95 b)) (list_all (λ b. not (eqb 95 b)) word) free).0)
-other_word (t ∷ text) [] free = refl
-other_word (t ∷ text) (b ∷ word) free = and_right _ _ (other_word text word (both (not (eqb 95 b)) (list_all (λ b. not (eqb 95 b)) word) free).1)
+abbrev has_no_underscore : List ℕ → Bool
+has_no_underscore = list_all (λ b. not (eqb 95 b))
 
-other_words : (text : List ℕ) (words : List (List ℕ)) → list_all (list_all (λ b. not (eqb 95 b))) words ≡ true → list_any (bytes_eq (text ++ 95 ∷ [])) words ≡ false
+-- a word that doesn't have `_` doesn't end in it
+other_word : (text word : List ℕ) → has_no_underscore word ≡ true → bytes_eq (text ++ 95 ∷ []) word ≡ false
+other_word [] [] free = refl
+other_word [] (b ∷ word) free = and_left _ _ (not-true _ (both (not (eqb 95 b)) (has_no_underscore word) free).0)
+other_word (t ∷ text) [] free = refl
+other_word (t ∷ text) (b ∷ word) free = and_right _ _ (other_word text word (both (not (eqb 95 b)) (has_no_underscore word) free).1)
+
+other_words : (text : List ℕ) (words : List (List ℕ)) → list_all has_no_underscore words ≡ true → list_any (bytes_eq (text ++ 95 ∷ [])) words ≡ false
 other_words text [] free = refl
 other_words text (word ∷ words) free =
-    let parts = both (list_all (λ b. not (eqb 95 b)) word) (list_all (list_all (λ b. not (eqb 95 b))) words) free in
+    let parts = both (has_no_underscore word) (list_all has_no_underscore words) free in
     or_from _ _ (other_word text word parts.0) (other_words text words parts.1)
 
 short_step : (text word : List ℕ) (words : List (List ℕ)) (same : Bool) → bytes_eq text word ≡ same → length word ≤ 254
@@ -93,10 +96,6 @@ word_whole first others true is small each few =
       reads = λ end rest other. rw (append_assoc (first ∷ others) (95 ∷ []) (end ∷ rest)) at (word_again text end rest (rw (small, longer, free) refl) within other);
     }
 
-not_not : (x : Bool) → not x ≡ false → x ≡ true
-not_not true h = refl
-not_not false h = absurd cc
-
 pub word_mends : Mends word_at
 unfolding word_at
 word_mends [] cut = record { more = 97 ∷ []; value = 97 ∷ []; reads = λ end rest other. word_again (97 ∷ []) end rest refl (omega arith) other }
@@ -104,7 +103,7 @@ word_mends (first ∷ others) cut =
     let a = cut_behind (not (is_ascii_lowercase first)) _ cut in
     let front = front_cut is_word_byte 255 (first ∷ others) (tested_cut is_reserved _ a.1) in
     let each = both (is_word_byte first) (list_all is_word_byte others) front.0 in
-    word_whole first others (is_reserved (first ∷ others)) refl (not_not _ a.0) each.1 front.1
+    word_whole first others (is_reserved (first ∷ others)) refl (not-false _ a.0) each.1 front.1
 
 pub name_mends : Mends name_at
 unfolding name_at

@@ -32,7 +32,7 @@ pub record IsWord (text : List ℕ) : Type 0 where
   pub plain : is_plain text ≡ true
   pub short : length text ≤ 255
 
-lowercase_word : (byte : ℕ) → is_ascii_lowercase byte ≡ true → is_word_byte byte ≡ true
+pub lowercase_word : (byte : ℕ) → is_ascii_lowercase byte ≡ true → is_word_byte byte ≡ true
 lowercase_word byte h = grind (arith, nat_tests)
 
 -- a small letter, and the word bytes behind it
