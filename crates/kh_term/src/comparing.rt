@@ -33,9 +33,10 @@ fn rank(tree: &TermTree) -> u8
     }
 }
 
+/// How two parts of terms compare.
 #[cycle(compare)]
 #[tactic(auto, using(crate::specs::Lemmas::Orders::kinds))]
-fn tree_cmp(a: &TermTree, b: &TermTree) -> Ordering
+pub fn tree_cmp(a: &TermTree, b: &TermTree) -> Ordering
     ensures { result ≡ term_cmp a.now b.now }
 {
     match (a, b) {
