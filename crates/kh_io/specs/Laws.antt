@@ -135,6 +135,7 @@ some_not_none {A} same = true≢false (ap is_some same)
 
 pub sound_untold : (s : Sound) (file : ℕ) (bytes : List ℕ) → told s (seen_after s.tape.first s.tape.calls file) ≡ None → sound_image s file bytes → ⊥
 sound_untold s file bytes untold image = elim s.past as (λ b.
-      (if b then None else Some (seen_after s.tape.first s.tape.calls file)) ≡ None → MatchBool b ⊥ (image_after s.tape.first s.tape.calls file bytes) → ⊥) [
-    true ↦ λ none left. left
-  | false ↦ λ some left. absurd (some_not_none some) ] untold image
+    (if b then None else Some (seen_after s.tape.first s.tape.calls file)) ≡ None → MatchBool b ⊥ (image_after s.tape.first s.tape.calls file bytes) → ⊥) [
+      | true ↦ λ none left. left
+      | false ↦ λ some left. absurd (some_not_none some)
+    ] untold image
