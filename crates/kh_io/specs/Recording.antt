@@ -2,7 +2,7 @@
 use Rattle.std.specs.Prelude.{◌≡◌, ℕ, ◌≤◌, Bool, true, false, not, List, [], ◌∷◌, ◌++◌, length, take, drop, sum_by, flat_map, Some}
 use Rattle.kh_io.specs.declared.files.Files.{Files}
 use Rattle.kh_io.specs.Call.{Call, Take, Give, WriteAt, Cut, answered_len}
-use Rattle.kh_io.specs.Kept.{Fits}
+use Rattle.kh_io.specs.JournalState.{Fits}
 use Rattle.kh_io.specs.Disk.{AreImages}
 use Rattle.kh_io.specs.FileState.{state_after, IsImage}
 
