@@ -4,8 +4,8 @@ ghost use Rattle.kh_term.specs.declared.tree.TermTree.TheVariants as tree;
 
 use crate::{
     Atom, Bytes, Name, NoMemory, Origin, Pairs, Path, Paths, Term, Terms, Text, Texts, atom, bin,
-    closure, compare, depth, int, list, list_with_tail, map, map_of_one, nil, packed_len,
-    path_term, place_of_key, size, tuple, value_of_key, widest,
+    closure, compare, copy_of, copy_of_all, copy_of_pairs, depth, int, list, list_with_tail, map,
+    map_of_one, nil, packed_len, path_term, place_of_key, size, tuple, value_of_key, widest,
 };
 use std::alloc::Global;
 use std::cmp::Ordering;
@@ -130,10 +130,15 @@ fn terms_stand_in_order(rt: HostRuntime) -> Result<(), Fail> {
     Ok(())
 }
 
+// The path of these atoms, and of a binary behind them.
 fn path(alloc: Global, names: &[&'static str]) -> Result<Path, NoMemory> {
     let mut all = Vec::new(alloc);
     for name in names {
         all.push(Name::Atom(word(alloc, name.as_bytes())?))?;
+    }
+    if !names.is_empty() {
+        let bytes = Vec::from_slice(alloc, b"x")?;
+        all.push(Name::Bin(Bytes::new(bytes)))?;
     }
     match Path::new(all) {
         Some(path) => Ok(path),
@@ -151,7 +156,7 @@ fn paths_are_keys(rt: HostRuntime) -> Result<(), Fail> {
     let key = path(alloc, &["a", "b"])?;
     assert_eq!(rt; kept.get(&key.copy(alloc)?).copied(), Some(2));
     let term = path_term(alloc, &key)?;
-    assert_eq!(rt; widest(&term), 2);
+    assert_eq!(rt; widest(&term), 3);
     let mut paths = Paths::new(alloc);
     paths.push(key)?;
     assert_eq!(rt; paths.len(), 1);
@@ -160,19 +165,51 @@ fn paths_are_keys(rt: HostRuntime) -> Result<(), Fail> {
     Ok(())
 }
 
+// The keys 1, 3 and 5, each with the next number.
+fn odd_keys(alloc: Global) -> Result<Pairs, NoMemory> {
+    let mut pairs = Pairs::new(alloc);
+    for key in [1, 3, 5] {
+        pairs.push(int(key), int(key + 1))?;
+    }
+    Ok(pairs)
+}
+
+// A copy of the value beside a key, nil where the key isn't there.
+fn found(alloc: Global, pairs: &Pairs, key: i128) -> Result<Term, NoMemory> {
+    match value_of_key(pairs.as_slice(), &int(key)) {
+        Some(value) => copy_of(alloc, value),
+        None => Ok(nil()),
+    }
+}
+
 #[test]
 fn keys_are_found(rt: HostRuntime) -> Result<(), Fail> {
     let alloc = rt.alloc();
-    let mut pairs = Pairs::new(alloc);
-    for key in [1, 3, 5] {
-        assert!(rt; pairs.push(int(key), int(key + 1))?);
-    }
-    assert!(rt; !pairs.push(int(5), nil())?);
-    let kept = pairs.copy(alloc)?;
-    assert_eq!(rt; place_of_key(kept.as_slice(), &int(3)), Ok(1));
-    assert_eq!(rt; place_of_key(kept.as_slice(), &int(4)), Err(2));
-    assert!(rt; value_of_key(kept.as_slice(), &int(5)).is_some());
-    assert!(rt; value_of_key(kept.as_slice(), &int(0)).is_none());
+    let mut pairs = odd_keys(alloc)?;
+    assert_eq!(rt; pairs.push(int(5), nil())?, false);
+    assert_eq!(rt; pairs.len(), 3);
+    assert_eq!(rt; place_of_key(pairs.as_slice(), &int(3)), Ok(1));
+    assert_eq!(rt; place_of_key(pairs.as_slice(), &int(4)), Err(2));
+    assert_eq!(rt;
+        compare(&found(alloc, &pairs, 5)?, &int(6)),
+        Ordering::Equal
+    );
+    assert_eq!(rt; compare(&found(alloc, &pairs, 0)?, &nil()), Ordering::Equal);
+    Ok(())
+}
+
+#[test]
+fn lists_are_copied(rt: HostRuntime) -> Result<(), Fail> {
+    let alloc = rt.alloc();
+    let pairs = odd_keys(alloc)?;
+    let copied = map(copy_of_pairs(alloc, pairs.as_slice())?);
+    assert_eq!(rt; compare(&copied, &map(pairs.copy(alloc)?)), Ordering::Equal);
+    let parts = numbers(alloc, &[1, 2])?;
+    let copied = tuple(copy_of_all(alloc, parts.as_slice())?);
+    assert_eq!(rt;
+        compare(&copied, &tuple(parts.copy(alloc)?)),
+        Ordering::Equal
+    );
     let mut texts = Texts::new(alloc);
     if let Some(text) = Text::new(Vec::from_slice(alloc, b"x")?) {
         texts.push(text.copy(alloc)?)?;
