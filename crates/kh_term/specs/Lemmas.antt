@@ -4,4 +4,5 @@ pub mod Induction
 pub mod Keys
 pub mod Layers
 pub mod Orders
+pub mod Rising
 pub mod Total

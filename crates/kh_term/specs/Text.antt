@@ -7,5 +7,10 @@ use Rattle.std.specs.Str.{is_utf8}
 abbrev pub is_atom_text : List ℕ → Bool
 is_atom_text text = nat_le (length text) 255 && is_utf8 text
 
+-- a text: UTF-8 of at most 4,096 bytes
+abbrev pub is_text : List ℕ → Bool
+is_text text = nat_le (length text) 4096 && is_utf8 text
+
+-- each is below 256
 abbrev pub are_bytes : List ℕ → Bool
 are_bytes = list_all (λ b. nat_lt b 256)

@@ -56,7 +56,7 @@ impl Bytes {
 }
 
 // Whether bytes are UTF-8.
-fn is_text(bytes: &[u8]) -> bool
+pub fn is_valid_utf8(bytes: &[u8]) -> bool
     ensures { result ≡ is_utf8 bytes.now }
 {
     match std::str::from_utf8(bytes) {
@@ -91,7 +91,7 @@ impl Atom {
         if text.len() > 255 {
             return None;
         }
-        if !is_text(text.as_slice()) {
+        if !is_valid_utf8(text.as_slice()) {
             return None;
         }
         Some(Atom { text })

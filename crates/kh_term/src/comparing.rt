@@ -35,7 +35,7 @@ fn rank(tree: &TermTree) -> u8
 
 #[cycle(compare)]
 #[tactic(auto, using(crate::specs::Lemmas::Orders::kinds))]
-fn tree_cmp(a: &TermTree, b: &TermTree) -> Ordering
+pub fn tree_cmp(a: &TermTree, b: &TermTree) -> Ordering
     ensures { result ≡ term_cmp a.now b.now }
 {
     match (a, b) {

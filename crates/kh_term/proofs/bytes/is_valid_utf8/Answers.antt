@@ -1,7 +1,7 @@
 use Rattle.std.proofs.Common.{◌≡◌, sym, Bool, true, false, List, ℕ, refl}
 use Rattle.std.specs.Str.{is_utf8, IsUtf8}
 use Rattle.std.proofs.lemmas.Str.{is_utf8-from_IsUtf8, IsUtf8-from_is_utf8}
-use Rattle.kh_term.proofs.bytes.is_text.Goals as goal
+use Rattle.kh_term.proofs.bytes.is_valid_utf8.Goals as goal
 
 -- what is no UTF-8 fails the test
 fails : (bytes : List ℕ) → ¬ (IsUtf8 bytes) → (test : Bool) → is_utf8 bytes ≡ test → false ≡ test
