@@ -6,6 +6,7 @@ mod fields;
 mod node;
 mod packing;
 mod pieces;
+mod tags;
 mod terms;
 mod unpacking;
 

@@ -6,6 +6,7 @@ ghost use Rattle.kh_term.specs.Size.{width_of, greatest};
 ghost use Rattle.kh_term.specs.WellFormed.{IsTerm, AreTerms, ArePairs, faults_of, is_origin};
 
 use crate::pieces::{push_byte, push_bytes, push_head, push_integer, push_short};
+use crate::tags::{ATOM, BINARY, CLOSURE, INTEGER, LIST, MAP, NIL, TUPLE};
 use kh_term::{NoMemory, Origin, TermTree};
 
 // Adds a tag, where a function was written, its arity, and the number of captured values.
@@ -13,7 +14,7 @@ fn push_origin(out: &mut Vec<u8>, origin: &Origin, captured: usize) -> Result<()
     requires { captured < 256 }
     ensures { OnOk result (out.new.items ≡ out.old.items ++ 8 ∷ (short_text origin.now.module ++ (short_text origin.now.name ++ (origin.now.arity ∷ captured ∷ [])))) }
 {
-    push_byte(out, 8)?;
+    push_byte(out, CLOSURE)?;
     push_short(out, origin.module.as_slice())?;
     push_short(out, origin.name.as_slice())?;
     push_byte(out, origin.arity)?;
@@ -56,29 +57,29 @@ pub fn push_node(out: &mut Vec<u8>, node: &TermTree) -> Result<(), NoMemory>
 {
     match node {
         TermTree::Int(number) => {
-            push_byte(out, 1)?;
+            push_byte(out, INTEGER)?;
             push_integer(out, *number)
         }
         TermTree::Atom(text) => {
-            push_byte(out, 2)?;
+            push_byte(out, ATOM)?;
             push_short(out, text.as_slice())
         }
         TermTree::Bin(bytes) => {
-            push_head(out, 3, bytes.as_slice().len())?;
+            push_head(out, BINARY, bytes.as_slice().len())?;
             push_bytes(out, bytes.as_slice())
         }
-        TermTree::Nil => push_byte(out, 4),
+        TermTree::Nil => push_byte(out, NIL),
         TermTree::List(parts, tail) => {
-            push_head(out, 5, parts.len())?;
+            push_head(out, LIST, parts.len())?;
             push_parts(out, parts.as_slice())?;
             push_node(out, tail.get())
         }
         TermTree::Tuple(parts) => {
-            push_head(out, 6, parts.len())?;
+            push_head(out, TUPLE, parts.len())?;
             push_parts(out, parts.as_slice())
         }
         TermTree::Map(pairs) => {
-            push_head(out, 7, pairs.len())?;
+            push_head(out, MAP, pairs.len())?;
             push_pairs(out, pairs.as_slice())
         }
         TermTree::Closure(origin, env) => {

@@ -5,7 +5,7 @@ ghost use Rattle.kh_pack.specs.declared.error.UnpackError.TheVariants.{NotPacked
 ghost use Rattle.kh_pack.specs.Standing.{IsPackedAt, IsUnlessMemory};
 
 use crate::error::{Stop, UnpackError};
-use crate::terms::term;
+use crate::terms::read_term;
 use kh_term::Term;
 use std::alloc::Global;
 
@@ -20,7 +20,7 @@ pub fn unpack(alloc: Global, bytes: &[u8], at: usize) -> Result<(Term, usize), U
     ensures not_packed { (place : ℕ) → result ≡ Err (NotPacked place) → (place ≡ at) × ((t : Term) (end : ℕ) → IsPackedAt bytes.now at end t.node → ⊥) }
 {
     let (_, left) = bytes.split_at(at);
-    match term(alloc, MAX_DEPTH, left) {
+    match read_term(alloc, MAX_DEPTH, left) {
         Ok((term, rest)) => Ok((term, bytes.len() - rest.len())),
         Err(Stop::NoTerm) => Err(UnpackError::NotPacked(at)),
         Err(Stop::NoMemory) => Err(UnpackError::NoMemory),
