@@ -1,6 +1,8 @@
 -- Terms that compare equal are the same.
 use Rattle.std.proofs.Math.Nat.{ℕ_set}
-use Rattle.std.proofs.Common.{◌↔◌, ◌≡◌, ℕ, false, List, [], ◌∷◌, length, map, refl, ap, sym, ◌∙◌, subst, ℤ}
+use Rattle.kh_term.specs.Whole.{whole, whole_where}
+use borrow.Author.Tests.{eqb-false}
+use Rattle.std.proofs.Common.{Bool, true, nat_eq, ◌↔◌, ◌≡◌, ℕ, false, List, [], ◌∷◌, length, map, refl, ap, sym, ◌∙◌, subst, ℤ}
 use Rattle.std.specs.declared.cmp.Ordering.{Ordering}
 use Rattle.std.specs.declared.cmp.Ordering.TheVariants.{Less, Equal, Greater}
 use Rattle.std.specs.Ordering.{nat_cmp, int_cmp, ordering_then, is_eq}
@@ -201,3 +203,11 @@ same_term x y e = same_node x y (same x.node y.node x.fits y.fits e)
 -- and one term compares equal with itself
 pub same_exactly : (x y : Term) → (term_cmp x.node y.node ≡ Equal) ↔ (x ≡ y)
 same_exactly x y = (same_term x y, λ e. ap (λ z. term_cmp x.node z.node) (sym e) ∙ tied_itself terms_total x)
+
+-- the term of a term's tree is the term
+pub whole_is : (x : Term) (n : TermTree) → x.node ≡ n → whole n ≡ x
+whole_is x n e = go (nat_eq (faults_of n) 0) refl
+  where
+    go : (b : Bool) (f : nat_eq (faults_of n) 0 ≡ b) → whole_where n b f ≡ x
+    go true f = same_node (whole_where n true f) x (sym e)
+    go false f = absurd (eqb-false (faults_of n) 0 f (ap faults_of (sym e) ∙ x.fits))

@@ -8,3 +8,4 @@ pub mod Packed
 pub mod Size
 pub mod Text
 pub mod WellFormed
+pub mod Whole

@@ -33,6 +33,7 @@ fn rank(tree: &TermTree) -> u8
     }
 }
 
+/// How two parts of terms compare.
 #[cycle(compare)]
 #[tactic(auto, using(crate::specs::Lemmas::Orders::kinds))]
 pub fn tree_cmp(a: &TermTree, b: &TermTree) -> Ordering

@@ -1,5 +1,6 @@
 //! Copies of terms.
 ghost use Rattle.std.specs.Prelude.{◌≡◌, IfOk};
+ghost use Rattle.kh_term.specs.WellFormed.{IsTerm, AreTerms, ArePairs};
 
 use crate::memory::NoMemory;
 use crate::name::Origin;
@@ -15,6 +16,51 @@ impl Term {
         let node = copy_tree(alloc, &self.node)?;
         Ok(Term { node })
     }
+}
+
+impl Terms {
+    pub fn copy(&self, alloc: Global) -> Result<Terms, NoMemory>
+        ensures { IfOk result (λ ts. ts ≡ self.now) }
+    {
+        let nodes = copy_trees(alloc, self.nodes.as_slice())?;
+        Ok(Terms { nodes })
+    }
+}
+
+impl Pairs {
+    pub fn copy(&self, alloc: Global) -> Result<Pairs, NoMemory>
+        ensures { IfOk result (λ ps. ps ≡ self.now) }
+    {
+        let nodes = copy_pairs(alloc, self.nodes.as_slice())?;
+        Ok(Pairs { nodes })
+    }
+}
+
+/// A copy of a part of a term.
+pub fn copy_of(alloc: Global, tree: &TermTree) -> Result<Term, NoMemory>
+    requires { IsTerm tree.now }
+    ensures { IfOk result (λ t. t.node ≡ tree.now) }
+{
+    let node = copy_tree(alloc, tree)?;
+    Ok(Term { node })
+}
+
+/// A copy of parts of a term.
+pub fn copy_of_all(alloc: Global, trees: &[TermTree]) -> Result<Terms, NoMemory>
+    requires { AreTerms trees.now }
+    ensures { IfOk result (λ ts. ts.nodes ≡ trees.now) }
+{
+    let nodes = copy_trees(alloc, trees)?;
+    Ok(Terms { nodes })
+}
+
+/// A copy of the keys and values of a map.
+pub fn copy_of_pairs(alloc: Global, pairs: &[(TermTree, TermTree)]) -> Result<Pairs, NoMemory>
+    requires { ArePairs pairs.now }
+    ensures { IfOk result (λ ps. ps.nodes ≡ pairs.now) }
+{
+    let nodes = copy_pairs(alloc, pairs)?;
+    Ok(Pairs { nodes })
 }
 
 #[cycle(copy)]

@@ -30,9 +30,10 @@ fn is_nil(tree: &TermTree) -> bool
     }
 }
 
+/// The depth of a part of a term.
 #[cycle(depth)]
 #[tactic(auto, using(crate::specs::Lemmas::Layers::depths))]
-fn tree_depth(tree: &TermTree) -> u32
+pub fn tree_depth(tree: &TermTree) -> u32
     requires { depth_of tree.now < 2 ^ 32 }
     ensures { result ≡ depth_of tree.now }
 {

@@ -1,6 +1,7 @@
 //! Making terms of their parts.
 ghost use Rattle.std.specs.Prelude.{◌≡◌, ◌≤◌, ◌≢◌, [], ◌∷◌, ◌++◌, length, IfOk, OnOk, OnErr};
 ghost use Rattle.kh_term.specs.declared.tree.TermTree.TheVariants as tree;
+ghost use Rattle.kh_term.specs.WellFormed.{AreTerms};
 ghost use Rattle.kh_term.specs.Make.{list_of, list_with_tail, name_tree, path_tree};
 
 use crate::bytes::{Atom, Bytes};
@@ -25,6 +26,13 @@ impl Terms {
         ensures { result ≡ length self.now.nodes }
     {
         self.nodes.len()
+    }
+
+    pub fn as_slice(&self) -> &[TermTree]
+        ensures terms { result.now ≡ self.now.nodes }
+        ensures fit { AreTerms self.now.nodes }
+    {
+        self.nodes.as_slice()
     }
 
     /// Adds a term at the end.

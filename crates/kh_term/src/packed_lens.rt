@@ -10,7 +10,7 @@ pub fn packed_len(term: &Term) -> u64
     requires { length (packed_of term.now.node) < 2 ^ 64 }
     ensures { result ≡ length (packed_of term.now.node) }
 {
-    tree_len(&term.node)
+    tree_packed_len(&term.node)
 }
 
 // The lengths that an integer may have, but for the greatest.
@@ -44,9 +44,10 @@ fn least_len(behind: u128) -> u32
     16
 }
 
+/// The number of packed bytes of a part of a term.
 #[cycle(packed_len)]
 #[tactic(auto, using(crate::proofs::Lengths::lengths))]
-fn tree_len(tree: &TermTree) -> u64
+pub fn tree_packed_len(tree: &TermTree) -> u64
     requires { length (packed_of tree.now) < 2 ^ 64 }
     ensures { result ≡ length (packed_of tree.now) }
 {
@@ -55,7 +56,7 @@ fn tree_len(tree: &TermTree) -> u64
         TermTree::Atom(text) => 2 + text.as_slice().len() as u64,
         TermTree::Bin(bytes) => 5 + bytes.as_slice().len() as u64,
         TermTree::Nil => 1,
-        TermTree::List(parts, tail) => 5 + all_len(parts.as_slice()) + tree_len(tail.get()),
+        TermTree::List(parts, tail) => 5 + all_len(parts.as_slice()) + tree_packed_len(tail.get()),
         TermTree::Tuple(parts) => 5 + all_len(parts.as_slice()),
         TermTree::Map(pairs) => 5 + pairs_len(pairs.as_slice()),
         TermTree::Closure(origin, env) => {
@@ -73,7 +74,7 @@ fn all_len(trees: &[TermTree]) -> u64
 {
     let mut all = 0;
     for tree in trees {
-        all += tree_len(tree);
+        all += tree_packed_len(tree);
     }
     all
 }
@@ -86,8 +87,8 @@ fn pairs_len(pairs: &[(TermTree, TermTree)]) -> u64
 {
     let mut all = 0;
     for pair in pairs {
-        let key = tree_len(&pair.0);
-        let value = tree_len(&pair.1);
+        let key = tree_packed_len(&pair.0);
+        let value = tree_packed_len(&pair.1);
         all += key + value;
     }
     all

@@ -13,9 +13,10 @@ pub fn size(term: &Term) -> u64
     tree_size(&term.node)
 }
 
+/// The size of a part of a term.
 #[cycle(size)]
 #[tactic(auto, using(crate::specs::Lemmas::Layers::sizes))]
-fn tree_size(tree: &TermTree) -> u64
+pub fn tree_size(tree: &TermTree) -> u64
     requires { size_of tree.now < 2 ^ 64 }
     ensures { result ≡ size_of tree.now }
 {

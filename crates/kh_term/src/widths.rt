@@ -12,9 +12,10 @@ pub fn widest(term: &Term) -> usize
     tree_width(&term.node)
 }
 
+/// The greatest width in a part of a term.
 #[cycle(width)]
 #[tactic(auto, using(crate::specs::Lemmas::Layers::widths))]
-fn tree_width(tree: &TermTree) -> usize
+pub fn tree_width(tree: &TermTree) -> usize
     ensures { result ≡ width_of tree.now }
 {
     match tree {

@@ -1,5 +1,5 @@
 -- Which trees are terms, variant by variant, and what their parts are.
-use Rattle.std.proofs.Common.{◌&&◌, ◌≡◌, ℕ, ◌+◌, ◌^◌, Bool, true, false, not, IsTrue, nat_le, List, [], ◌∷◌, ◌++◌, length, map, sum, refl, ap, sym, ◌∙◌, subst, ℤ, pos, negsuc, of_z, to_z, SFits, arith}
+use Rattle.std.proofs.Common.{zero, suc, ◌<◌, get_or, ◌&&◌, ◌≡◌, ℕ, ◌+◌, ◌^◌, Bool, true, false, not, IsTrue, nat_le, List, [], ◌∷◌, ◌++◌, length, map, sum, refl, ap, sym, ◌∙◌, subst, ℤ, pos, negsuc, of_z, to_z, SFits, arith}
 use Rattle.std.specs.Int.{w128}
 use Rattle.std.proofs.lemmas.Bool.{and_from}
 use Rattle.std.proofs.lemmas.Int.{to_z-of_z}
@@ -130,6 +130,28 @@ keys_of_map pairs h = keys_of_pairs pairs (omega (arith, h))
 pub values_of_map : (pairs : List (TermTree × TermTree)) → ArePairs pairs → AreTerms (map (λ p. p.1) pairs)
 values_of_map pairs h = values_of_pairs pairs (omega (arith, h))
 
+-- each of several terms, and each key and value of pairs
+pub part_of : (ts : List TermTree) (i : ℕ) (t : TermTree) → AreTerms ts → i < length ts → t ≡ get_or ts i t → IsTerm t
+part_of [] i t h within e = absurd (omega arith)
+part_of (x ∷ ts) zero t h within e = subst IsTerm (sym e) (fits_front x ts h)
+part_of (x ∷ ts) (suc i) t h within e = part_of ts i t (fits_behind x ts h) (omega arith) e
+
+pub key_of : (pairs : List (TermTree × TermTree)) (i : ℕ) (p : TermTree × TermTree) → ArePairs pairs → i < length pairs → p ≡ get_or pairs i p → IsTerm p.0
+key_of pairs i p h within e = go pairs i (keys_of_map pairs h) within e
+  where
+    go : (ps : List (TermTree × TermTree)) (k : ℕ) → AreTerms (map (λ q. q.0) ps) → k < length ps → p ≡ get_or ps k p → IsTerm p.0
+    go [] k fit inside same = absurd (omega arith)
+    go (q ∷ ps) zero fit inside same = subst (λ r. IsTerm r.0) (sym same) (fits_front q.0 (map (λ r. r.0) ps) fit)
+    go (q ∷ ps) (suc k) fit inside same = go ps k (fits_behind q.0 (map (λ r. r.0) ps) fit) (omega arith) same
+
+pub value_of : (pairs : List (TermTree × TermTree)) (i : ℕ) (p : TermTree × TermTree) → ArePairs pairs → i < length pairs → p ≡ get_or pairs i p → IsTerm p.1
+value_of pairs i p h within e = go pairs i (values_of_map pairs h) within e
+  where
+    go : (ps : List (TermTree × TermTree)) (k : ℕ) → AreTerms (map (λ q. q.1) ps) → k < length ps → p ≡ get_or ps k p → IsTerm p.1
+    go [] k fit inside same = absurd (omega arith)
+    go (q ∷ ps) zero fit inside same = subst (λ r. IsTerm r.1) (sym same) (fits_front q.1 (map (λ r. r.1) ps) fit)
+    go (q ∷ ps) (suc k) fit inside same = go ps k (fits_behind q.1 (map (λ r. r.1) ps) fit) (omega arith) same
+
 pub fits_joined : (xs ys : List TermTree) → AreTerms xs → AreTerms ys → AreTerms (xs ++ ys)
 fits_joined xs ys h k = sum-map faults_of (xs ++ ys) ∙ (sum_by-append faults_of xs ys ∙ omega (arith, h, k, sum-map faults_of xs, sum-map faults_of ys))
 
@@ -144,3 +166,6 @@ fits_in_front (x ∷ xs) ys t h k =
     some (z ∷ zs) e = e
 
 pub ruleset terms = (fits-Int, fits-Atom, fits-Bin, fits-Nil, fits-Tuple, fits-List, fits-Map, fits-Closure, fits_proper, fits_one_pair, fits_pushed, fits_front, fits_behind, fits_more)
+
+-- what the parts of a term are, for a caller that takes them
+pub ruleset parts = (parts_of_tuple, parts_of_list, tail_of_list, parts_of_closure, pairs_of_map, keys_of_map, values_of_map, part_of, key_of, value_of)

@@ -1,4 +1,4 @@
-use Rattle.kh_term.proofs.Paths.{path_as_term}
+use Rattle.kh_term.proofs.PathLemmas.{path_as_term}
 use Rattle.kh_term.proofs.laws.paths_compare_as_terms.Goals as goal
 
 pub returns : goal.returns

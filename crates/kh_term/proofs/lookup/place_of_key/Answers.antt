@@ -8,5 +8,5 @@ use Rattle.kh_term.proofs.lookup.place_of_key.Goals as goal
 pub returns : goal.returns
 returns c =
     let facts = c.binary_search_by.ensures in
-    searched c.args.pairs.now c.args.key.now _ c.requires facts.bound
+    searched c.args.pairs.now c.args.key.now c.binary_search_by.result c.requires facts.bound
     (facts.position (λ p. term_cmp p.0 c.args.key.now.node) (always_returns_same _ _ _ (λ a r g called. (search rules, search rules))))
