@@ -6,7 +6,7 @@ use Rattle.kh_term.specs.declared.term.Term.{Term}
 use Rattle.kh_term.specs.declared.tree.TermTree.{TermTree}
 use Rattle.kh_term.specs.Packed.{packed_of}
 use Rattle.kh_term.specs.Lemmas.Tags.{tagged}
-use Rattle.kh_term.proofs.Same.{same_node}
+use Rattle.kh_term.specs.Lemmas.OneTree.{same_node}
 use Rattle.kh_pack.specs.Reading.{term_at}
 use Rattle.kh_pack.specs.Standing.{IsPackedAt, IsUnlessMemory}
 use Rattle.kh_pack.proofs.Steps.{IsBytes, IsBytes-drop, some_is}

@@ -8,6 +8,8 @@ mod packing;
 mod pieces;
 mod tags;
 mod terms;
+#[cfg(test)]
+mod tests;
 mod unpacking;
 
 pub use error::UnpackError;

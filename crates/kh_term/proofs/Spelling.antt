@@ -19,7 +19,7 @@ use Rattle.kh_term.specs.Lemmas.Induction.{by_parts, Each, OfBoth}
 use Rattle.kh_term.specs.Lemmas.Layers.{faults-Int, width-List, width-Tuple, width-Map, width-Closure, width-Bin, packed-Int, packed-Atom, packed-Bin, packed-Nil, packed-List, packed-Tuple, packed-Map, packed-Closure}
 use Rattle.kh_term.specs.Lemmas.Total.{layered}
 use Rattle.kh_term.proofs.Lengths.{length-high_first}
-use Rattle.kh_term.proofs.Same.{same_node}
+use Rattle.kh_term.specs.Lemmas.OneTree.{same_node}
 use Rattle.kh_term.specs.Packed.{packed_of, all_packed_of, pairs_packed_of, behind_sign, integer_len, integer_bytes, short_text, count_bytes}
 use Rattle.kh_term.specs.Lemmas.Integers.{bits_of, Holds, len_holds, kept-pos, kept-neg, different, fits_behind_sign}
 use Rattle.kh_term.specs.Lemmas.Tags.{tag_of, tagged}

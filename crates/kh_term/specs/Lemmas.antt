@@ -4,6 +4,7 @@ pub mod Induction
 pub mod Integers
 pub mod Keys
 pub mod Layers
+pub mod OneTree
 pub mod Orders
 pub mod Rising
 pub mod Tags
