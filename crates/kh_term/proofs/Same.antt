@@ -1,5 +1,5 @@
 -- Terms that compare equal are the same.
-use Rattle.std.proofs.Math.Nat.{ℕ_set}
+use Rattle.kh_term.specs.Lemmas.OneTree.{same_node}
 use Rattle.kh_term.specs.Whole.{whole, whole_where}
 use borrow.Author.Tests.{eqb-false}
 use Rattle.std.proofs.Common.{Bool, true, nat_eq, ◌↔◌, ◌≡◌, ℕ, false, List, [], ◌∷◌, length, map, refl, ap, sym, ◌∙◌, subst, ℤ}
@@ -188,13 +188,6 @@ same = by_parts Same record {
         go : (l : TermTree-F TermTree) → out-TermTree b ≡ l → tree.Nil ≡ b
         go layer.Nil e = sym (layered b _ e ∙ rolls-Nil)
         go l e = absurd (not_equal _ refl (sym (order-Nil b ∙ seen layer.Nil b l e) ∙ q))
-
--- terms of one tree are one
-pub same_node : (x y : Term) → x.node ≡ y.node → x ≡ y
-same_node x y e = go y.node e y.fits
-  where
-    go : (n : TermTree) → x.node ≡ n → (fits : IsTerm n) → x ≡ record { node = n; fits = fits }
-    go n e = subst (λ m. (fits : IsTerm m) → x ≡ record { node = m; fits = fits }) e (λ fits. ap (λ f. record { node = x.node; fits = f }) (ℕ_set (faults_of x.node) 0 x.fits fits))
 
 -- terms that compare equal are one
 pub same_term : (x y : Term) → term_cmp x.node y.node ≡ Equal → x ≡ y

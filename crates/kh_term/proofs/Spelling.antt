@@ -1,12 +1,10 @@
 -- Each term has packed bytes of its own, and none are the front of another's.
-use borrow.Author.Tests.{ltb-true, eqb-false}
-use Rattle.std.proofs.lemmas.Bool.{leb-true, and_parts}
-use Rattle.std.proofs.Common.{cond, ◌≡◌, ◌<◌, ◌≤◌, ℕ, zero, suc, ◌+◌, ◌-◌, ◌*◌, ◌/◌, ◌%◌, ◌^◌, max, Bool, true, false, nat_eq, nat_lt, nat_le, Option, Some, None, find, unwrap_or, List, [], ◌∷◌, ◌++◌, length, map, sum, refl, ap, sym, ◌∙◌, subst, ℤ, pos, negsuc, arith, append_assoc}
-use Rattle.std.specs.List.{list_all}
+use borrow.Author.Tests.{eqb-false}
+use Rattle.std.proofs.Common.{◌≡◌, ◌<◌, ℕ, zero, suc, ◌+◌, ◌-◌, ◌*◌, ◌/◌, ◌%◌, ◌^◌, max, true, false, nat_eq, List, [], ◌∷◌, ◌++◌, length, map, sum, refl, ap, sym, ◌∙◌, subst, ℤ, pos, negsuc, arith, append_assoc}
 use Rattle.std.specs.Int.{from_be_bytes, w32, w128, bytes_high_first, byte_at, cast_unsigned}
-use Rattle.std.proofs.Math.Nat.{mod-eq_of_lt, mul-add-mod_self_left, pow-succ', mul-suc, mod-lt}
+use Rattle.std.proofs.Math.Nat.{mod-eq_of_lt, mod-lt}
 use Rattle.std.proofs.Math.Pow.{pow-lt}
-use Rattle.std.proofs.lemmas.Nat.{from_be_bytes-to_be_bytes_4, pow-add, mod-pow-add, pow_pos}
+use Rattle.std.proofs.lemmas.Nat.{from_be_bytes-to_be_bytes_4, mod-pow-add, pow_pos}
 use Rattle.kh_term.specs.declared.name.Origin.{Origin}
 use Rattle.kh_term.specs.declared.term.Term.{Term}
 use Rattle.kh_term.specs.declared.tree.TermTree.{TermTree, out-TermTree}
@@ -21,8 +19,10 @@ use Rattle.kh_term.specs.Lemmas.Induction.{by_parts, Each, OfBoth}
 use Rattle.kh_term.specs.Lemmas.Layers.{faults-Int, width-List, width-Tuple, width-Map, width-Closure, width-Bin, packed-Int, packed-Atom, packed-Bin, packed-Nil, packed-List, packed-Tuple, packed-Map, packed-Closure}
 use Rattle.kh_term.specs.Lemmas.Total.{layered}
 use Rattle.kh_term.proofs.Lengths.{length-high_first}
-use Rattle.kh_term.proofs.Same.{same_node}
-use Rattle.kh_term.specs.Packed.{packed_of, all_packed_of, pairs_packed_of, behind_sign, least_len, integer_len, integer_bytes, short_text, count_bytes}
+use Rattle.kh_term.specs.Lemmas.OneTree.{same_node}
+use Rattle.kh_term.specs.Packed.{packed_of, all_packed_of, pairs_packed_of, behind_sign, integer_len, integer_bytes, short_text, count_bytes}
+use Rattle.kh_term.specs.Lemmas.Integers.{bits_of, Holds, len_holds, kept-pos, kept-neg, different, fits_behind_sign}
+use Rattle.kh_term.specs.Lemmas.Tags.{tag_of, tagged}
 
 -- lists of one length
 same_front : {A : Type 0} (x y u v : List A) → length x ≡ length y → x ++ u ≡ y ++ v → (x ≡ y) × (u ≡ v)
@@ -49,13 +49,6 @@ same_short x y u v e =
 
 -- ---- integers
 
-bits_of : (i : ℕ) → 256 ^ i ≡ 2 ^ (8 * i)
-bits_of zero = refl
-bits_of (suc i) =
-    let more : 8 * suc i ≡ 8 + 8 * i = omega arith in
-    let once : 256 ^ suc i ≡ 256 * 256 ^ i = pow-succ' 256 i in
-    once ∙ (ap (λ n. 256 * n) (bits_of i) ∙ (sym (pow-add 2 8 (8 * i)) ∙ ap (λ n. 2 ^ n) (sym more)))
-
 byte_is : (i n : ℕ) → byte_at i n ≡ n / 2 ^ (8 * i) % 2 ^ 8
 byte_is zero n = omega arith
 byte_is (suc i) n = ap (λ m. n / m % 256) (bits_of (suc i))
@@ -70,69 +63,6 @@ same_bytes (suc k) a b e =
     ap (λ n. a % 2 ^ n) more ∙ (mod-pow-add a 8 (8 * k)
     ∙ ((λ i. (sym (byte_is k a) ∙ (head ∙ byte_is k b)) i * 2 ^ (8 * k) + same_bytes k a b rest i)
     ∙ (sym (mod-pow-add b 8 (8 * k)) ∙ ap (λ n. b % 2 ^ n) (sym more))))
-
-found : (p : ℕ → Bool) (xs : List ℕ) (x : ℕ) → find p xs ≡ Some x → p x ≡ true
-found p [] x e = absurd (cc)
-found p (y ∷ ys) x e = go (p y) refl e (found p ys x)
-  where
-    go : (b : Bool) → p y ≡ b → cond b (Some y) (find p ys) ≡ Some x → (find p ys ≡ Some x → p x ≡ true) → p x ≡ true
-    go true h f later = let same : y ≡ x = cc in subst (λ z. p z ≡ true) same h
-    go false h f later = later f
-
-found_all : (p q : ℕ → Bool) (xs : List ℕ) (x : ℕ) → list_all q xs ≡ true → find p xs ≡ Some x → q x ≡ true
-found_all p q [] x all e = absurd (cc)
-found_all p q (y ∷ ys) x all e = go (p y) e (found_all p q ys x (and_parts (q y) (list_all q ys) all).1)
-  where
-    go : (b : Bool) → cond b (Some y) (find p ys) ≡ Some x → (find p ys ≡ Some x → q x ≡ true) → q x ≡ true
-    go true f later = let same : y ≡ x = cc in subst (λ z. q z ≡ true) same (and_parts (q y) (list_all q ys) all).0
-    go false f later = later f
-
-abbrev shorter : List ℕ
-shorter = 1 ∷ 2 ∷ 3 ∷ 4 ∷ 5 ∷ 6 ∷ 7 ∷ 8 ∷ 9 ∷ 10 ∷ 11 ∷ 12 ∷ 13 ∷ 14 ∷ 15 ∷ []
-
--- the length holds the number behind the sign, and is 1 to 16
-record Holds (n k : ℕ) : Type 0 where
-  room : n < 2 ^ (8 * k - 1)
-  some : 1 ≤ k
-  most : k ≤ 16
-
-len_holds : (n : ℕ) → n < 2 ^ 127 → Holds n (least_len n)
-len_holds n small = go (find (λ len. nat_lt n (2 ^ (8 * len - 1))) shorter) refl
-  where
-    go : (o : Option ℕ) → find (λ len. nat_lt n (2 ^ (8 * len - 1))) shorter ≡ o → Holds n (unwrap_or o 16)
-    go None e = record { room = small; some = omega arith; most = omega arith }
-    go (Some k) e = record {
-      room = ltb-true n (2 ^ (8 * k - 1)) (found (λ len. nat_lt n (2 ^ (8 * len - 1))) shorter k e);
-      some = leb-true 1 k (found_all (λ len. nat_lt n (2 ^ (8 * len - 1))) (λ len. nat_le 1 len) shorter k refl e);
-      most = leb-true k 16 (found_all (λ len. nat_lt n (2 ^ (8 * len - 1))) (λ len. nat_le len 16) shorter k refl e);
-    }
-
--- what is kept of an integer
-kept-pos : (n k : ℕ) → Holds n k → n % 2 ^ (8 * k) ≡ n
-kept-pos n k h =
-    let less : 8 * k - 1 < 8 * k = omega (arith, h.some) in
-    let grows : 2 ^ (8 * k - 1) < 2 ^ (8 * k) = pow-lt less in
-    mod-eq_of_lt (omega (arith, h.room))
-
-different : (m n k : ℕ) → Holds m k → Holds n k → m ≡ 2 ^ (8 * k) - suc n → ⊥
-different m n k h i e =
-    let next : 8 * k ≡ suc (8 * k - 1) = omega (arith, h.some) in
-    let twice : 2 ^ (8 * k) ≡ 2 * 2 ^ (8 * k - 1) = ap (λ q. 2 ^ q) next ∙ pow-succ' 2 (8 * k - 1) in
-    absurd (omega (arith, h.room, i.room, twice, e))
-
-kept-neg : (n k : ℕ) → Holds n k → (2 ^ 128 - suc n) % 2 ^ (8 * k) ≡ 2 ^ (8 * k) - suc n
-kept-neg n k h =
-    let m : ℕ = 2 ^ (8 * k) in
-    let p : ℕ = 2 ^ (128 - 8 * k) - 1 in
-    let less : 8 * k - 1 < 8 * k = omega (arith, h.some) in
-    let grows : 2 ^ (8 * k - 1) < m = pow-lt less in
-    let apart : 8 * k + (128 - 8 * k) ≡ 128 = omega (arith, h.most) in
-    let one : 0 < 2 ^ (128 - 8 * k) = pow_pos (128 - 8 * k) in
-    let factor : 2 ^ (128 - 8 * k) ≡ suc p = omega arith in
-    let whole : 2 ^ 128 ≡ m * p + m = ap (λ e. 2 ^ e) (sym apart) ∙ (pow-add 2 (8 * k) (128 - 8 * k) ∙ (ap (λ q. m * q) factor ∙ mul-suc m p)) in
-    let room : n < m = omega (arith, h.room) in
-    let parted : 2 ^ 128 - suc n ≡ m * p + (m - suc n) = ap (λ q. q - suc n) whole ∙ omega arith in
-    ap (λ q. q % m) parted ∙ (mul-add-mod_self_left m p (m - suc n) ∙ mod-eq_of_lt (omega arith))
 
 -- the bytes of an integer say what it is
 same_kept : (x y : ℤ) (k : ℕ) → Holds (behind_sign x) k → Holds (behind_sign y) k → cast_unsigned w128 x % 2 ^ (8 * k) ≡ cast_unsigned w128 y % 2 ^ (8 * k) → x ≡ y
@@ -154,10 +84,6 @@ same_number x y k h i e =
     let second : b < 2 ^ (8 * k) = mod-lt (cast_unsigned w128 y) some in
     same_kept x y k h i (sym (mod-eq_of_lt first) ∙ (same_bytes k a b e ∙ mod-eq_of_lt second))
 
-fits_behind_sign : (z : ℤ) → fits_128 z ≡ true → behind_sign z < 2 ^ 127
-fits_behind_sign (pos n) h = ltb-true n (2 ^ 127) h
-fits_behind_sign (negsuc n) h = ltb-true n (2 ^ 127) h
-
 pub same_integer : (x y : ℤ) (u v : List ℕ) → fits_128 x ≡ true → fits_128 y ≡ true → (integer_len x ∷ integer_bytes x) ++ u ≡ (integer_len y ∷ integer_bytes y) ++ v → (x ≡ y) × (u ≡ v)
 same_integer x y u v h k e =
     let len : integer_len x ≡ integer_len y = cc in
@@ -170,35 +96,6 @@ same_integer x y u v h k e =
     )
 
 -- ---- terms
-
-abbrev tag_of : {A : Type 0} → TermTree-F A → ℕ
-tag_of (layer.Int n) = 1
-tag_of (layer.Atom text) = 2
-tag_of (layer.Bin bytes) = 3
-tag_of layer.Nil = 4
-tag_of (layer.List parts tail) = 5
-tag_of (layer.Tuple parts) = 6
-tag_of (layer.Map pairs) = 7
-tag_of (layer.Closure origin env) = 8
-
-abbrev Tagged : TermTree → Type 0
-Tagged t = (rest : List ℕ) × (packed_of t ≡ tag_of (out-TermTree t) ∷ rest)
-
-tagged_by : (t : TermTree) (l : TermTree-F TermTree) (rest : List ℕ) → out-TermTree t ≡ l → packed_of t ≡ tag_of l ∷ rest → Tagged t
-tagged_by t l rest e k = (rest, k ∙ ap (λ m. tag_of m ∷ rest) (sym e))
-
--- the first byte is the tag
-tagged : (t : TermTree) → Tagged t
-tagged = by_parts Tagged record {
-  at_int = λ n. tagged_by _ _ _ (outs-Int n) (packed-Int n);
-  at_atom = λ text. tagged_by _ _ _ (outs-Atom text) (packed-Atom text);
-  at_bin = λ bytes. tagged_by _ _ _ (outs-Bin bytes) (packed-Bin bytes);
-  at_nil = tagged_by _ _ _ outs-Nil packed-Nil;
-  at_list = λ xs t each f. tagged_by _ _ _ (outs-List xs t) (packed-List xs t);
-  at_tuple = λ xs each. tagged_by _ _ _ (outs-Tuple xs) (packed-Tuple xs);
-  at_map = λ ps each. tagged_by _ _ _ (outs-Map ps) (packed-Map ps);
-  at_closure = λ origin xs each. tagged_by _ _ _ (outs-Closure origin xs) (packed-Closure origin xs);
-}
 
 abbrev Alone : TermTree → Type 0
 Alone a = (b : TermTree) (u v : List ℕ) → IsTerm a → IsTerm b → width_of a < 2 ^ 32 → width_of b < 2 ^ 32 → packed_of a ++ u ≡ packed_of b ++ v → (a ≡ b) × (u ≡ v)
