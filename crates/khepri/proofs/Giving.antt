@@ -1,10 +1,10 @@
 -- A piece that is given in several calls.
-use Rattle.std.proofs.Common.{◌≡◌, ℕ, ◌≤◌, List, [], ◌∷◌, ◌++◌, length, take, drop, Option, Some, None, refl, sym, ap, subst, ◌∙◌, append_assoc}
+use Rattle.std.proofs.Common.{◌≡◌, ℕ, List, [], ◌++◌, take, drop, Option, Some, None, refl, sym, ap, subst, ◌∙◌, append_assoc}
 use Rattle.std.proofs.lemmas.List.{take-append-drop, append-nil}
-use Rattle.kh_io.specs.Told.{Told, Kept, Extends, IsFrontOf}
+use Rattle.kh_io.specs.Told.{Kept, Extends, IsFrontOf}
 use Rattle.kh_io.specs.Host.{Adds, MayAdd}
 use Rattle.khepri.specs.Output.{GivesAll}
-use Rattle.khepri.proofs.Told.{told_then, told_as}
+use Rattle.khepri.proofs.Told.{told_then}
 
 -- a front of the piece is given, and this is left
 pub record IsGiving (old now : Option (List ℕ)) (piece rest : List ℕ) : Type 0 where

@@ -1,7 +1,7 @@
 -- Answering line after line, as a loop does.
-use Rattle.std.proofs.Common.{◌≡◌, ◌≢◌, ℕ, ◌<◌, ◌≤◌, Bool, true, false, List, [], ◌∷◌, ◌++◌, length, drop, Option, Ok, Err, refl, sym, ap, subst, ◌∙◌, append_assoc, arith}
+use Rattle.std.proofs.Common.{◌≡◌, ◌≢◌, ℕ, ◌<◌, Bool, true, false, List, [], ◌++◌, length, drop, Option, Ok, Err, ap, ◌∙◌, append_assoc, arith}
 use Rattle.std.proofs.lemmas.List.{length-drop}
-use Rattle.kh_io.specs.Told.{Told, Extends, IsFrontOf, Rose}
+use Rattle.kh_io.specs.Told.{Told, Extends, IsFrontOf}
 use Rattle.kh_text_defs.specs.Shown.{shown_line}
 use Rattle.kh_read.specs.declared.form.Form.{Form}
 use Rattle.kh_read.specs.Reading.{Cut, Fault}
@@ -10,7 +10,7 @@ use Rattle.khepri.specs.declared.session.Stop.TheVariants as stop
 use Rattle.khepri.specs.Tree.{Node}
 use Rattle.khepri.specs.Machine.{reply_to, after}
 use Rattle.khepri.specs.Output.{GivesAll}
-use Rattle.khepri.specs.Session.{AtFault, Unfinished, line_at, all_read, cut_short, Session, ends, cut, Serves}
+use Rattle.khepri.specs.Session.{line_at, all_read, Session, ends, cut, Serves}
 use Rattle.khepri.specs.Serving.{AnswerStops, GivesToFault, GivesFront, ServeStops}
 use Rattle.khepri.proofs.Told.{told_then, told_as}
 use Rattle.khepri.proofs.Serving.{serves_on, serves_faulty, serves_cut, serves_begins, serves_front}

@@ -1,5 +1,5 @@
 -- A run from its first piece of the input to its end.
-use Rattle.std.proofs.Common.{◌≡◌, ◌≢◌, ℕ, ◌+◌, ◌-◌, ◌<◌, ◌≤◌, Bool, true, false, leb, List, [], ◌∷◌, ◌++◌, length, take, drop, Option, Some, None, refl, sym, ap, subst, ◌∙◌, append_assoc, inl, inr, ◌⊎◌, arith}
+use Rattle.std.proofs.Common.{◌≡◌, ℕ, ◌+◌, ◌-◌, ◌<◌, ◌≤◌, Bool, true, false, leb, List, [], ◌++◌, length, take, drop, Option, refl, sym, ap, subst, ◌∙◌, append_assoc, inl, inr, ◌⊎◌, arith}
 use Rattle.std.proofs.lemmas.Bool.{le-leb, lt-leb}
 use Rattle.std.proofs.Math.Seq.{take-append-add}
 use Rattle.std.proofs.lemmas.List.{append-nil, length-append, take_all, take_at, drop-append-le}
@@ -8,12 +8,12 @@ use Rattle.khepri.specs.declared.session.Stop.{Stop}
 use Rattle.khepri.specs.declared.session.Stop.TheVariants as stop
 use Rattle.khepri.specs.declared.input.Piece.TheVariants as piece
 use Rattle.khepri.specs.Tree.{Node, root}
-use Rattle.khepri.specs.Session.{Ending, AtEnd, AtFault, Unfinished, Session, Later, Serves, EndsServing, BeginsServing, script_limit, WholeSession, FrontSession, ends}
-use Rattle.khepri.specs.Serving.{ServesTo, ServeStops, GivesToFault, GivesFront}
+use Rattle.khepri.specs.Session.{Ending, AtEnd, AtFault, Unfinished, Session, Serves, EndsServing, BeginsServing, script_limit, WholeSession, ends}
+use Rattle.khepri.specs.Serving.{ServesTo, ServeStops, GivesFront}
 use Rattle.khepri.specs.Input.{TakesMore, TakeStops}
 use Rattle.khepri.specs.Run.{stop_status, Ran, Ends}
 use Rattle.khepri.proofs.Told.{told_then, told_as, told_same}
-use Rattle.khepri.proofs.Serving.{serves_starts, serves_begins, session_exists}
+use Rattle.khepri.proofs.Serving.{serves_starts, serves_begins}
 use Rattle.khepri.proofs.Lines.{SoFar}
 
 -- ---- serving in parts

@@ -1,15 +1,15 @@
 -- Serving line after line is a session, whatever comes later.
-use Rattle.std.proofs.Common.{◌≡◌, ◌≢◌, ℕ, zero, suc, ◌+◌, ◌<◌, ◌≤◌, Bool, true, false, cond, eqb, List, [], ◌∷◌, ◌++◌, length, Ok, Err, refl, sym, ap, subst, ◌∙◌, append_assoc, arith}
+use Rattle.std.proofs.Common.{◌≡◌, ◌≢◌, ℕ, zero, suc, ◌<◌, ◌≤◌, Bool, true, false, cond, eqb, List, [], ◌∷◌, ◌++◌, length, Ok, Err, refl, sym, ap, subst, ◌∙◌, append_assoc, arith}
 use Rattle.std.proofs.lemmas.List.{append-nil}
 use Rattle.kh_io.specs.Told.{IsFrontOf}
 use Rattle.kh_text_defs.specs.Shown.{shown_line}
 use Rattle.kh_read.specs.declared.form.Form.{Form}
-use Rattle.kh_read.specs.Reading.{◌>>=◌, Read, Stop, Cut, Fault, form_at, extended}
+use Rattle.kh_read.specs.Reading.{◌>>=◌, Read, Cut, Fault, form_at, extended}
 use Rattle.kh_read.proofs.Grows.{form_grows}
 use Rattle.kh_read.proofs.Place.{form_shorter}
-use Rattle.khepri.specs.Tree.{Node, root}
+use Rattle.khepri.specs.Tree.{Node}
 use Rattle.khepri.specs.Machine.{reply_to, after}
-use Rattle.khepri.specs.Session.{Ending, AtEnd, AtFault, Unfinished, behind_form, line_at, cut_short, all_read, Session, ends, faulty, cut, answers, Later, Serves, EndsServing, BeginsServing}
+use Rattle.khepri.specs.Session.{Ending, AtFault, behind_form, line_at, cut_short, all_read, Session, ends, faulty, cut, answers, Later, Serves, EndsServing, BeginsServing}
 
 -- ---- lines, with more behind them
 

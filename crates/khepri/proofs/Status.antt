@@ -1,11 +1,11 @@
 -- What a status tells.
-use Rattle.std.proofs.Common.{◌≡◌, ℕ, ◌-◌, ◌<◌, ◌^◌, List, Option, Result, Ok, Err, refl, sym, ap, subst, ◌∙◌, ◌⊎◌, inl, inr, arith}
-use Rattle.kh_io.specs.Told.{Told, Extends, Rose}
+use Rattle.std.proofs.Common.{◌≡◌, ℕ, ◌-◌, ◌<◌, ◌^◌, List, Option, Result, Err, refl, ap, ◌∙◌, ◌⊎◌, inl, inr, arith}
+use Rattle.kh_io.specs.Told.{Rose}
 use Rattle.khepri.specs.declared.session.Stop.{Stop}
 use Rattle.khepri.specs.declared.session.Stop.TheVariants as stop
 use Rattle.khepri.specs.Tree.{root}
-use Rattle.khepri.specs.Session.{Ending, Session, script_limit, WholeSession}
-use Rattle.khepri.specs.Run.{stop_status, ending_status, EndsAs, Ran, run_status, Ends, NoFaults, TellsEnding}
+use Rattle.khepri.specs.Session.{Ending}
+use Rattle.khepri.specs.Run.{stop_status, ending_status, EndsAs, Ends, NoFaults, TellsEnding}
 use Rattle.khepri.proofs.Told.{told_as}
 use Rattle.khepri.proofs.Unique.{session_unique}
 

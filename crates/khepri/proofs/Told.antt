@@ -1,6 +1,6 @@
 -- What is told over one call after another.
-use Rattle.std.proofs.Common.{◌≡◌, ℕ, List, [], ◌∷◌, ◌++◌, Option, Some, None, refl, sym, ap, ◌∙◌, append_assoc}
-use Rattle.kh_io.specs.Told.{Told, Kept, Extends, IsFrontOf}
+use Rattle.std.proofs.Common.{Option, Some, None}
+use Rattle.kh_io.specs.Told.{Told}
 
 -- two calls, one after the other
 pub told_then : {A : Type 0} (P Q R : A → A → Type 0) (a b c : Option A) → ((x y z : A) → P x y → Q y z → R x z)

@@ -1,11 +1,11 @@
 -- A script has one session.
-use Rattle.std.proofs.Common.{◌≡◌, ◌≢◌, ℕ, Bool, true, false, List, [], ◌∷◌, ◌++◌, Ok, Err, refl, sym, ap, subst, ◌∙◌}
+use Rattle.std.proofs.Common.{◌≡◌, ◌≢◌, ℕ, Bool, List, [], ◌++◌, Ok, Err, refl, sym, ap, subst, ◌∙◌}
 use Rattle.kh_text_defs.specs.Shown.{shown_line}
 use Rattle.kh_read.specs.declared.form.Form.{Form}
 use Rattle.kh_read.specs.Reading.{Read, Cut, Fault, form_at}
 use Rattle.khepri.specs.Tree.{Node}
 use Rattle.khepri.specs.Machine.{reply_to, after}
-use Rattle.khepri.specs.Session.{Ending, AtEnd, AtFault, Unfinished, line_at, cut_short, all_read, Session, ends, faulty, cut, answers}
+use Rattle.khepri.specs.Session.{Ending, AtFault, line_at, cut_short, all_read, Session, ends, faulty, cut, answers}
 
 nothing_there : (end : Bool) → line_at end [] ≡ Err Cut
 unfolding form_at

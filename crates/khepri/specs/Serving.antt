@@ -4,7 +4,7 @@ use Rattle.kh_io.specs.Told.{Told, Rose}
 use Rattle.khepri.specs.declared.session.Stop.{Stop}
 use Rattle.khepri.specs.declared.session.Stop.TheVariants as stop
 use Rattle.khepri.specs.Tree.{Node}
-use Rattle.khepri.specs.Session.{Ending, AtFault, all_read, Session, Serves, EndsServing, BeginsServing}
+use Rattle.khepri.specs.Session.{AtFault, all_read, Session, Serves, EndsServing, BeginsServing}
 
 -- why a form wasn't answered: the sink's count of faults rose, or memory ran out
 abbrev pub AnswerStops : Stop → ℕ → ℕ → Type 0

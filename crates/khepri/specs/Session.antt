@@ -3,7 +3,7 @@ use Rattle.std.specs.Prelude.{◌≡◌, ◌≢◌, ℕ, Bool, true, false, ◌=
 use Rattle.kh_io.specs.Told.{IsFrontOf}
 use Rattle.kh_text_defs.specs.Shown.{shown_line}
 use Rattle.kh_read.specs.declared.form.Form.{Form}
-use Rattle.kh_read.specs.Reading.{◌>>=◌, Read, Stop, Cut, Fault, form_at}
+use Rattle.kh_read.specs.Reading.{◌>>=◌, Read, Cut, Fault, form_at}
 use Rattle.khepri.specs.Tree.{Node, root}
 use Rattle.khepri.specs.Machine.{reply_to, after}
 

@@ -1,5 +1,5 @@
 -- The tree: a finite map from paths to data or none, as its entries in the order of paths.
-use Rattle.std.specs.Prelude.{ℕ, zero, suc, ℤ, Bool, is_some, List, [], ◌∷◌, ◌++◌, length, take, Option, Some, None, if◌then◌else◌}
+use Rattle.std.specs.Prelude.{ℕ, zero, suc, ℤ, is_some, List, [], ◌∷◌, ◌++◌, length, take, Option, Some, None, if◌then◌else◌}
 use Rattle.std.specs.BTreeMap.{insert_entry, is_at}
 use Rattle.std.specs.Map.{lookup}
 use Rattle.kh_term.specs.declared.name.Name.{Name}

@@ -1,5 +1,5 @@
 -- The words that the program is called with.
-use Rattle.std.specs.Prelude.{Bool, true, false, List, [], ◌∷◌, codes, String, string_bytes}
+use Rattle.std.specs.Prelude.{Bool, false, List, [], ◌∷◌, codes, String, string_bytes}
 use Rattle.std.specs.Global.{Global}
 use Rattle.std.specs.Str.{bytes_eq}
 

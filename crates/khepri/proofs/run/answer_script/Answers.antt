@@ -1,9 +1,8 @@
-use Rattle.std.proofs.Common.{◌≡◌, false, true, ◌∙◌, ◌≤◌, ◌<◌, ◌-◌, List, ℕ, length, drop, refl, sym, ap, subst, Ok, Err, arith}
+use Rattle.std.proofs.Common.{◌≡◌, false, true, ◌∙◌, drop, refl, Ok, Err, arith}
 use Rattle.std.specs.Prelude.{Result}
 use Rattle.khepri.specs.declared.session.Stop.{Stop}
 use Rattle.khepri.specs.declared.session.Stop.TheVariants as stop
-use Rattle.khepri.proofs.Running.{IsRunning, HasMore, starts, took_piece, took_shorter, served_on, served_stops, take_stops, HasEnded, ended, finished, finish_stops, take_reads, take_writes, serve_reads, serve_writes, so_far_kept}
-use Rattle.khepri.proofs.Giving.{kept_then}
+use Rattle.khepri.proofs.Running.{starts, took_piece, took_shorter, served_on, served_stops, take_stops, ended, finished, finish_stops, take_reads, take_writes, serve_reads, serve_writes, so_far_kept}
 use Rattle.khepri.proofs.run.answer_script.Goals as goal
 
 abbrev ended_by : Stop → Result (Unit {0}) Stop

@@ -1,7 +1,5 @@
-use Rattle.std.proofs.Common.{◌≡◌, ◌∙◌, ◌≤◌, length, drop, Ok, Err, sym, ap, subst, arith}
+use Rattle.std.proofs.Common.{◌≡◌, ◌∙◌, length, drop, arith}
 use Rattle.std.proofs.lemmas.List.{drop_all}
-use Rattle.khepri.specs.Line.{ReadsLine}
-use Rattle.khepri.specs.Session.{line_at}
 use Rattle.khepri.proofs.Lines.{one_line, no_reply, to_fault, to_cut, to_front, some_left, rests_at_end, rests_cut}
 use Rattle.khepri.proofs.Giving.{kept_then}
 use Rattle.khepri.proofs.session.serve.Goals as goal

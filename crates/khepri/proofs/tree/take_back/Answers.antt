@@ -1,6 +1,4 @@
-use Rattle.std.proofs.Common.{◌≡◌, ◌∙◌, sym, true}
-use Rattle.std.specs.Prelude.{is_none}
-use Rattle.khepri.specs.Tree.{node_at}
+use Rattle.std.proofs.Common.{◌∙◌, sym}
 use Rattle.khepri.proofs.TakeBack.{taken_back}
 use Rattle.khepri.proofs.tree.take_back.Goals as goal
 
