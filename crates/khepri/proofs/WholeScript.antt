@@ -1,5 +1,5 @@
 -- A session of a whole script in memory.
-use Rattle.std.proofs.Common.{◌≡◌, ◌≢◌, ℕ, ◌≤◌, ◌<◌, true, List, [], ◌++◌, length, drop, Err, refl, sym, subst, arith}
+use Rattle.std.proofs.Common.{◌≡◌, ◌≢◌, ℕ, true, List, [], ◌++◌, length, drop, Err, refl, sym, subst, arith}
 use Rattle.std.proofs.lemmas.List.{append-nil, drop_all}
 use Rattle.kh_read.specs.Reading.{Cut, Fault}
 use Rattle.khepri.specs.Tree.{Node, root}

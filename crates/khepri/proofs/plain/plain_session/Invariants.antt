@@ -1,4 +1,4 @@
-use Rattle.std.proofs.Common.{◌≡◌, ◌-◌, ◌≤◌, true, length, drop}
+use Rattle.std.proofs.Common.{◌-◌, ◌≤◌, true, length, drop}
 use Rattle.khepri.specs.Tree.{root}
 use Rattle.khepri.specs.Session.{Serves}
 use Rattle.khepri.proofs.plain.plain_session.Given as goal
