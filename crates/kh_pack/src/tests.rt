@@ -81,7 +81,12 @@ fn atoms_and_binaries(rt: HostRuntime) -> Result<(), Fail> {
     packs(&rt, alloc, &atom(word(alloc, b"")?), &[2, 0])?;
     packs(&rt, alloc, &atom(word(alloc, b"ok")?), &[2, 2, 0x6f, 0x6b])?;
     packs(&rt, alloc, &binary(alloc, b"")?, &[3, 0, 0, 0, 0])?;
-    packs(&rt, alloc, &binary(alloc, &[0xff, 0])?, &[3, 0, 0, 0, 2, 0xff, 0])
+    packs(
+        &rt,
+        alloc,
+        &binary(alloc, &[0xff, 0])?,
+        &[3, 0, 0, 0, 2, 0xff, 0],
+    )
 }
 
 #[test]
@@ -100,7 +105,12 @@ fn maps(rt: HostRuntime) -> Result<(), Fail> {
     let mut pairs = Pairs::new(alloc);
     pairs.push(int(1), atom(word(alloc, b"a")?))?;
     pairs.push(int(2), nil())?;
-    packs(&rt, alloc, &map(pairs), &[7, 0, 0, 0, 2, 1, 1, 1, 2, 1, 0x61, 1, 1, 2, 4])
+    packs(
+        &rt,
+        alloc,
+        &map(pairs),
+        &[7, 0, 0, 0, 2, 1, 1, 1, 2, 1, 0x61, 1, 1, 2, 4],
+    )
 }
 
 #[test]
