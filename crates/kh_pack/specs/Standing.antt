@@ -1,5 +1,6 @@
 -- Where packed bytes stand.
 use Rattle.std.specs.Prelude.{◌≡◌, ◌<◌, ◌≤◌, ◌^◌, ℕ, List, length, slice_range, Result, Ok, Err, ◌⊎◌}
+use Rattle.kh_term.specs.declared.term.Term.{Term}
 use Rattle.kh_term.specs.declared.tree.TermTree.{TermTree}
 use Rattle.kh_term.specs.Packed.{packed_of}
 use Rattle.kh_term.specs.Size.{depth_of, width_of}
@@ -11,6 +12,10 @@ use Rattle.kh_pack.specs.declared.error.UnpackError.TheVariants as errors
 abbrev pub IsPackedAt : List ℕ → ℕ → ℕ → TermTree → Type 0
 IsPackedAt bytes at end t =
     (at < end) × (end ≤ length bytes) × (slice_range bytes at end ≡ packed_of t) × (depth_of t ≤ 256) × (width_of t < 2 ^ 32)
+
+-- No term is packed from this place on.
+abbrev pub NothingPackedAt : List ℕ → ℕ → Type 0
+NothingPackedAt bytes at = (t : Term) (end : ℕ) → IsPackedAt bytes at end t.node → ⊥
 
 -- This was answered, unless memory ran out.
 abbrev pub IsUnlessMemory : {X : Type 0} → Result X UnpackError → X → Type 0

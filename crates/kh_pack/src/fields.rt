@@ -1,5 +1,4 @@
 //! The fields of packed bytes that hold no terms, each read off the front.
-ghost use Rattle.std.specs.Prelude.{◌≡◌, ◌≤◌, length};
 ghost use Rattle.kh_pack.specs.Reading.{Gives, first_at, front_at, count_at, integer_at, text_at, binary_at, origin_at};
 
 use crate::error::Stop;

@@ -1,9 +1,8 @@
 //! The packed bytes of a term, part by part.
-ghost use Rattle.std.specs.Prelude.{◌≡◌, ◌<◌, ◌≤◌, ◌+◌, ◌^◌, ◌++◌, ◌∷◌, [], OnOk, IsTrue, length, map, sum, max, ◌&&◌, nat_le};
-ghost use Rattle.std.specs.Int.{to_be_bytes, w32};
+ghost use Rattle.std.specs.Prelude.{◌≡◌, ◌<◌, ◌^◌, ◌++◌, ◌∷◌, [], OnOk, map, max};
 ghost use Rattle.kh_term.specs.Packed.{packed_of, all_packed_of, pairs_packed_of, short_text};
 ghost use Rattle.kh_term.specs.Size.{width_of, greatest};
-ghost use Rattle.kh_term.specs.WellFormed.{IsTerm, AreTerms, ArePairs, faults_of, is_origin};
+ghost use Rattle.kh_term.specs.WellFormed.{IsTerm, AreTerms, ArePairs};
 
 use crate::pieces::{push_byte, push_bytes, push_head, push_integer, push_short};
 use crate::tags::{ATOM, BINARY, CLOSURE, INTEGER, LIST, MAP, NIL, TUPLE};

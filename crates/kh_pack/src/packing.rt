@@ -7,10 +7,11 @@ use crate::node::push_node;
 use kh_term::{NoMemory, Term};
 use std::alloc::Global;
 
-/// The packed bytes of a term. Answers `NoMemory` where they find no room.
+/// The packed bytes of a term. Answers `NoMemory` where they find no room. A count has four bytes, so no list, tuple, map or
+/// binary in the term is as long as 2^32.
 pub fn pack(alloc: Global, term: &Term) -> Result<Vec<u8>, NoMemory>
-    requires { width_of term.now.node < 2 ^ 32 }
-    ensures { IfOk result (λ bytes. bytes.items ≡ packed_of term.now.node) }
+    requires narrow { width_of term.now.node < 2 ^ 32 }
+    ensures packed { IfOk result (λ bytes. bytes.items ≡ packed_of term.now.node) }
 {
     let mut out = Vec::new(alloc);
     push_node(&mut out, &term.node)?;

@@ -1,8 +1,7 @@
 //! Small pieces of packed bytes at the end of a buffer.
-ghost use Rattle.std.specs.Prelude.{◌≡◌, ◌<◌, ◌≤◌, ◌^◌, ◌++◌, ◌∷◌, [], OnOk, length};
+ghost use Rattle.std.specs.Prelude.{◌≡◌, ◌<◌, ◌^◌, ◌++◌, ◌∷◌, [], OnOk, length};
 ghost use Rattle.std.specs.Int.{to_be_bytes, w32};
 ghost use Rattle.kh_term.specs.Packed.{integer_len, integer_bytes, short_text};
-ghost use Rattle.kh_term.specs.WellFormed.{is_origin, fits_128};
 
 use byteorder::{BigEndian, ByteOrder};
 use kh_term::{NoMemory, integer_len};
