@@ -1,0 +1,4 @@
+pub mod Records
+pub mod Append
+pub mod Writes
+pub mod Gates
