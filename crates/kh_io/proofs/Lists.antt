@@ -33,13 +33,13 @@ pub take_from_gets : (n : ℕ) (xs ys : List ℕ) → min n (length xs) ≡ min 
     → ((i : ℕ) → i < n → i < length xs → get_or xs i 0 ≡ get_or ys i 0) → take n xs ≡ take n ys
 take_from_gets n xs ys len gets = ext_get_or 0 (take n xs) (take n ys) (rw (length-take, length-take) len)
     (λ i lt. let both : i < min n (length xs) = rw length-take at lt in
-        rw (get_or-take n xs i 0 (omega (arith, both)), get_or-take n ys i 0 (omega (arith, both))) (gets i (omega (arith, both)) (omega (arith, both))))
+    rw (get_or-take n xs i 0 (omega (arith, both)), get_or-take n ys i 0 (omega (arith, both))) (gets i (omega (arith, both)) (omega (arith, both))))
 
 pub drop_from_gets : (n : ℕ) (xs ys : List ℕ) → length xs - n ≡ length ys - n
     → ((i : ℕ) → n ≤ i → i < length xs → get_or xs i 0 ≡ get_or ys i 0) → drop n xs ≡ drop n ys
 drop_from_gets n xs ys len gets = ext_get_or 0 (drop n xs) (drop n ys) (rw (length-drop, length-drop) len)
     (λ i lt. let there : i < length xs - n = rw length-drop at lt in
-        rw (get_or-drop, get_or-drop) (gets (n + i) (omega arith) (omega (arith, there))))
+    rw (get_or-drop, get_or-drop) (gets (n + i) (omega arith) (omega (arith, there))))
 
 -- bytes of fronts and of rests that are equal
 pub get_in_front : (n : ℕ) (xs ys : List ℕ) (i : ℕ) → take n xs ≡ take n ys → i < n → get_or xs i 0 ≡ get_or ys i 0
@@ -66,14 +66,18 @@ pub record Overlay (at to : ℕ) (bytes other out : List ℕ) : Type 0 where
 
 pub overlay : (at to : ℕ) (bytes other : List ℕ) → to ≤ length bytes → to ≤ length other → (out : List ℕ) × Overlay at to bytes other out
 overlay at to bytes other le_bytes le_other = elim (cases_lt at to) [
-  inr none ↦ (bytes, record { len = refl; before = λ i lt. refl; inside = λ i le lt. absurd (omega (arith, none, le, lt)); behind = λ i le le2. refl })
+  | inr none ↦ (bytes, record { len = refl; before = λ i lt. refl; inside = λ i le lt. absurd (omega (arith, none, le, lt)); behind = λ i le le2. refl })
   | inl some ↦
-    let mid : List ℕ = drop at (take to other) in
-    let len : length mid ≡ to - at = rw (length-drop, length-take) (omega arith) in
-    let within : at ≤ length bytes = omega arith in
-    (put bytes at mid, record {
-      len = length-put bytes at mid within ∙ omega (arith, len);
-      before = λ i lt. put_before bytes at mid i within lt;
-      inside = λ i le lt. put_in bytes at mid i within le (omega (arith, len)) ∙ get_or-drop at (take to other) (i - at) 0
-        ∙ get_or-take to other (at + (i - at)) 0 (omega arith) ∙ ap (λ k. get_or other k 0) (omega arith);
-      behind = λ i le le2. put_behind bytes at mid i within (omega (arith, len)) }) ]
+      let mid : List ℕ = drop at (take to other) in
+      let len : length mid ≡ to - at = rw (length-drop, length-take) (omega arith) in
+      let within : at ≤ length bytes = omega arith in (
+        put bytes at mid,
+        record {
+          len = length-put bytes at mid within ∙ omega (arith, len);
+          before = λ i lt. put_before bytes at mid i within lt;
+          inside = λ i le lt. put_in bytes at mid i within le (omega (arith, len)) ∙ get_or-drop at (take to other) (i - at) 0
+              ∙ get_or-take to other (at + (i - at)) 0 (omega arith) ∙ ap (λ k. get_or other k 0) (omega arith);
+          behind = λ i le le2. put_behind bytes at mid i within (omega (arith, len));
+        },
+      )
+]

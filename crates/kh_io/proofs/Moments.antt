@@ -16,11 +16,14 @@ pub goes_on : {P : Files → ℕ → Type 0} {told : Type 0} {m0 m1 m2 : ℕ} {p
 goes_on run call now = record {
   later = omega (arith, run.later, call.later);
   each = λ files s since. elim (call.nothing_else _ files s run.later since) [
-      inl before ↦ run.each files s before
-    | inr here ↦ now files s here.0 here.1 here.2 ];
+    | inl before ↦ run.each files s before
+    | inr here ↦ now files s here.0 here.1 here.2
+  ];
   earlier = λ t files s before since. elim (call.nothing_else t files s (omega (arith, before, run.later)) since) [
-      inl was ↦ run.earlier t files s before was
-    | inr here ↦ inr (now files s here.0 here.1 here.2) ] }
+    | inl was ↦ run.earlier t files s before was
+    | inr here ↦ inr (now files s here.0 here.1 here.2)
+  ];
+}
 
 -- one run after another
 pub both : {P Q : Files → ℕ → Type 0} {m0 m1 m2 : ℕ} {past mid since : ℕ → Files → ℕ → Type 0}
@@ -29,11 +32,14 @@ pub both : {P Q : Files → ℕ → Type 0} {m0 m1 m2 : ℕ} {past mid since : �
 both first second is = record {
   later = omega (arith, first.later, second.later);
   each = λ files s since. elim (second.earlier _ files s first.later since) [
-      inl before ↦ first.each files s before
-    | inr here ↦ is files s here ];
+    | inl before ↦ first.each files s before
+    | inr here ↦ is files s here
+  ];
   earlier = λ t files s before since. elim (second.earlier t files s (omega (arith, before, first.later)) since) [
-      inl was ↦ first.earlier t files s before was
-    | inr here ↦ inr (is files s here) ] }
+    | inl was ↦ first.earlier t files s before was
+    | inr here ↦ inr (is files s here)
+  ];
+}
 
 -- what has P has Q
 pub weakened : {P Q : Files → ℕ → Type 0} {m0 m1 : ℕ} {past since : ℕ → Files → ℕ → Type 0}
@@ -41,7 +47,8 @@ pub weakened : {P Q : Files → ℕ → Type 0} {m0 m1 : ℕ} {past since : ℕ 
 weakened run is = record {
   later = run.later;
   each = λ files s since. is files s (run.each files s since);
-  earlier = λ t files s before since. elim (run.earlier t files s before since) [ inl was ↦ inl was | inr here ↦ inr (is files s here) ] }
+  earlier = λ t files s before since. elim (run.earlier t files s before since) [ inl was ↦ inl was | inr here ↦ inr (is files s here) ];
+}
 
 -- where the files stay, the images are those from before
 pub images_stay : {seen seen' : ℕ → Option (List ℕ)} {image image' : ℕ → List ℕ → Type 0}

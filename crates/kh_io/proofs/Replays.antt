@@ -37,12 +37,13 @@ midway_next file first entries bytes index from size old new d mid lt is step =
     let sizes : from + sum_by byte_count (drop index entries) ≤ length bytes = mid.sizes in
     let call = call_of e (take (byte_count e) (drop from bytes)) in
     let unfolds : fold (after file) mid.state (calls_of (drop index entries) (drop from bytes)) ≡ fold (after file) (after file mid.state call) (calls_of (drop (index + 1) entries) (drop (from + size) bytes)) =
-        rw rest (ap (λ bs. fold (after file) (after file mid.state call) (calls_of (drop (index + 1) entries) bs)) later) in
+    rw rest (ap (λ bs. fold (after file) (after file mid.state call) (calls_of (drop (index + 1) entries) bs)) later) in
     record {
       sizes = omega (arith, sizes, sum, is);
       state = after file mid.state call;
       shows = rw size_is at (step mid.state mid.shows);
-      leads = sym unfolds ∙ mid.leads }
+      leads = sym unfolds ∙ mid.leads;
+    }
 
 -- at the end nothing is left to be done
 pub midway_end : (file : ℕ) (first : List ℕ) (entries : List Entry) (bytes : List ℕ) (from : ℕ) (replay : Replayed) (index : ℕ)
@@ -71,7 +72,8 @@ if_same false x = refl
 pub as_written : (s : FileState) (r : Replayed) → Shows s r → IsFilled s None r.bytes
 as_written s r shows = record {
   len = ap length shows.now;
-  each = λ i lt. ap (λ xs. get_or xs i 0) shows.now ∙ sym (if_same (is_unsafe s i) (get_or s.now i 0)) }
+  each = λ i lt. ap (λ xs. get_or xs i 0) shows.now ∙ sym (if_same (is_unsafe s i) (get_or s.now i 0));
+}
 
 -- the bytes with another one in the place of each that isn't yet safe
 pub overwritten : (s : FileState) (r : Replayed) (loose : List (ℕ × ℕ)) (byte : ℕ) (out : List ℕ)
@@ -81,16 +83,18 @@ pub overwritten : (s : FileState) (r : Replayed) (loose : List (ℕ × ℕ)) (by
 overwritten s r loose byte out shows order len each = record {
   len = len ∙ ap length shows.now;
   each = λ i lt.
-    let same : list_any (is_within i) loose ≡ list_any (is_within i) s.loose =
-        sym (list_any-reverse (is_within i) loose) ∙ ap (list_any (is_within i)) (sym order ∙ shows.loose) in
-    each i lt ∙ rw (shows.least, same, shows.now) refl }
+      let same : list_any (is_within i) loose ≡ list_any (is_within i) s.loose =
+      sym (list_any-reverse (is_within i) loose) ∙ ap (list_any (is_within i)) (sym order ∙ shows.loose) in
+      each i lt ∙ rw (shows.least, same, shows.now) refl;
+}
 
 -- a file so filled is one that a crash may leave
 pub filled_image : (s : FileState) (fill : Option ℕ) (bytes : List ℕ) → Sane s → IsFilled s fill bytes → IsImage s bytes
 filled_image s fill bytes sane filled = record {
   no_shorter = omega (arith, filled.len, sane.least);
   no_longer = omega (arith, filled.len, sane.most);
-  others = λ i safe. filled.each i (omega (arith, filled.len, sane.least, (safe_parts s i safe).0)) ∙ rw safe refl }
+  others = λ i safe. filled.each i (omega (arith, filled.len, sane.least, (safe_parts s i safe).0)) ∙ rw safe refl;
+}
 
 pub filled_images : (first : Files) (calls : List Call) (fill : Option ℕ) (files : Files) → AreFilled first calls fill files → AreImages (image_after first calls) files
 filled_images first calls fill files filled = λ file lt. filled_image (state_after file first calls) fill (file_of files file) (sane_state file first calls) (filled file lt)

@@ -1,5 +1,5 @@
 -- What one more call of a host in memory does to its files and to time.
-use Rattle.std.proofs.Common.{ℕ, ◌≡◌, ◌≢◌, ◌⊎◌, ◌+◌, ◌<◌, ◌≤◌, Bool, true, false, List, [], ◌∷◌, ◌++◌, Option, Some, None, length, take, refl, sym, ap, subst, ◌∙◌, inl, inr, arith, ne_eqb, eq-eqb, IsTrue, IsFalse, IsSome, IfSome,  ◌==◌, ◌&&◌, if◌then◌else◌, length-append, append-nil, drop, min, sum_by, nat_lt, ◌^◌, ◌-◌, lt-ltb}
+use Rattle.std.proofs.Common.{ℕ, ◌≡◌, ◌≢◌, ◌⊎◌, ◌+◌, ◌<◌, ◌≤◌, Bool, true, false, List, [], ◌∷◌, ◌++◌, Option, Some, None, length, take, refl, sym, ap, subst, ◌∙◌, inl, inr, arith, ne_eqb, eq-eqb, IsTrue, IsFalse, IsSome, IfSome, ◌==◌, ◌&&◌, if◌then◌else◌, length-append, append-nil, drop, min, sum_by, nat_lt, ◌^◌, ◌-◌, lt-ltb}
 use Rattle.std.proofs.lemmas.List.{take-append-le, take-append-drop, drop-drop, length-take-le, take_all, nil_from_length}
 use Rattle.std.proofs.Math.Seq.{take-length}
 use Rattle.std.proofs.lemmas.List.Sums.{sum_by_push}
@@ -25,7 +25,8 @@ pub stays_same : (first : Files) (calls calls' : List Call) (file : ℕ) → sta
 stays_same first calls calls' file same = record {
   read = ap (λ s. s.now) same;
   only = λ bytes image. subst (λ s. IsImage s bytes) same image;
-  all = λ told bytes image. subst (λ s. IsImage s bytes) (sym same) image }
+  all = λ told bytes image. subst (λ s. IsImage s bytes) (sym same) image;
+}
 
 pub stays_quiet : (first : Files) (calls : List Call) (call : Call) (file : ℕ) → Quiet file call
     → Stays (Some (seen_after first calls file)) (Some (seen_after first (calls ++ call ∷ []) file)) (image_after first calls file) (image_after first (calls ++ call ∷ []) file)
@@ -80,13 +81,15 @@ pub follows_write : (told : Type 0) (first : Files) (calls : List Call) (file at
     → Follows told (Torn at (length bytes)) (image_after first calls file) (image_after first (calls ++ WriteAt file at bytes done ∷ []) file)
 follows_write told first calls file at bytes done within = rw (state_written first calls file at bytes done) (record {
   only = λ c image. torn_only (state_after file first calls) at bytes done (sane_state file first calls) within c image;
-  all = λ h d c image torn. torn_all (state_after file first calls) at bytes done within d c image torn })
+  all = λ h d c image torn. torn_all (state_after file first calls) at bytes done within d c image torn;
+})
 
 pub follows_cut : (told : Type 0) (first : Files) (calls : List Call) (file len : ℕ) (done : Bool)
     → Follows told (CutBack len) (image_after first calls file) (image_after first (calls ++ Cut file len done ∷ []) file)
 follows_cut told first calls file len done = rw (state_cut first calls file len done) (record {
   only = λ c image. cut_only (state_after file first calls) len done (sane_state file first calls) c image;
-  all = λ h d c image back. cut_all (state_after file first calls) len done d c image back })
+  all = λ h d c image back. cut_all (state_after file first calls) len done d c image back;
+})
 
 pub safe_sync : (first : Files) (calls : List Call) (file : ℕ)
     → IsSafe (Some (seen_after first (calls ++ Sync file true ∷ []) file)) (image_after first (calls ++ Sync file true ∷ []) file)
@@ -102,12 +105,12 @@ sync_only first calls file bytes image =
     let e = state_synced first calls file in
     let now : IsImage (synced (seen_after first calls file)) bytes = subst (λ s. IsImage s bytes) e image in
     subst (image_after first calls file) (sym (image_of_synced (seen_after first calls file) bytes now))
-      (now_is_image (state_after file first calls) (sane_state file first calls))
+    (now_is_image (state_after file first calls) (sane_state file first calls))
 
 -- time goes on in a call that is noted
 pub time_noted : (told : Type 0) (first : Files) (calls : List Call) (call : Call)
     → Elapses told (length calls) (length (calls ++ call ∷ [])) (left_since first calls) (left_since first (calls ++ call ∷ []))
-        (image_after first (calls ++ call ∷ [])) (length (given_in calls)) (length (given_in (calls ++ call ∷ [])))
+    (image_after first (calls ++ call ∷ [])) (length (given_in calls)) (length (given_in (calls ++ call ∷ [])))
 time_noted told first calls call =
     let more : List Call = calls ++ call ∷ [] in
     let len : length more ≡ length calls + 1 = length-append calls (call ∷ []) in
@@ -115,16 +118,18 @@ time_noted told first calls call =
     record {
       later = omega (arith, len);
       nothing_else = λ t files s before (k, since, within, images, stamp). elim (cases_lt (length calls) k) [
-          inl last ↦
+        | inl last ↦
             let all : take k more ≡ more = take_all k more (omega (arith, len, last)) in
             let now : s ≡ length (given_in more) = stamp ∙ ap (λ cs. length (given_in cs)) all in
             inr (rw all at images, rw now grows, rw now (omega arith))
         | inr earlier ↦
             let same : take k more ≡ take k calls = take-append-le k calls (call ∷ []) earlier in
-            inl (k, since, earlier, rw same at images, stamp ∙ ap (λ cs. length (given_in cs)) same) ];
+            inl (k, since, earlier, rw same at images, stamp ∙ ap (λ cs. length (given_in cs)) same)
+      ];
       keeps = λ h t files s before (k, since, within, images, stamp).
-        let same : take k more ≡ take k calls = take-append-le k calls (call ∷ []) within in
-        (k, since, omega (arith, len, within), rw same images, stamp ∙ ap (λ cs. length (given_in cs)) (sym same)) }
+          let same : take k more ≡ take k calls = take-append-le k calls (call ∷ []) within in
+          (k, since, omega (arith, len, within), rw same images, stamp ∙ ap (λ cs. length (given_in cs)) (sym same));
+    }
 
 -- and stands in one that isn't
 pub time_stands : (told : Type 0) (first : Files) (calls : List Call)
@@ -132,7 +137,8 @@ pub time_stands : (told : Type 0) (first : Files) (calls : List Call)
 time_stands told first calls = record {
   later = omega arith;
   nothing_else = λ t files s before since. inl since;
-  keeps = λ h t files s before since. since }
+  keeps = λ h t files s before since. since;
+}
 
 which : {L D : Type 0} (b : Bool) → (IsTrue b → L) → (IsFalse b → D) → L ⊎ D
 which true l d = inl (l refl)
@@ -142,9 +148,9 @@ which false l d = inr (d refl)
 pub three : {P L D : Type 0} (r : Recording) (n : ℕ) (listed : Bool)
     → ((HasRoom r n → ⊥) → P) → (HasRoom r n → IsTrue listed → L) → (HasRoom r n → IsFalse listed → D) → P ⊎ (L ⊎ D)
 three r n listed past fail done = elim (cases_lt r.room (cost r.calls + 64 + n)) [
-    inl more ↦ inl (past (λ fits. absurd (omega (arith, more, fits))))
-  | inr fits ↦ inr (which listed (fail fits) (done fits)) ]
-
+  | inl more ↦ inl (past (λ fits. absurd (omega (arith, more, fits))))
+  | inr fits ↦ inr (which listed (fail fits) (done fits))
+]
 
 -- nothing done is a write of which no part was done, and a cut that left the file as it was
 pub torn_none : (at n : ℕ) (bytes : List ℕ) → Torn at n bytes bytes
@@ -187,7 +193,6 @@ stands false count = omega arith
 pub one_more_stands : (count : ℕ) → count ≤ one_more count
 one_more_stands count = stands (nat_lt count (2 ^ 64 - 1)) count
 
-
 -- a `take` takes off the bytes that it gives
 pub taken_off : (input : List ℕ) (calls : List Call) (asked n : ℕ) (buffer : List ℕ) → n ≤ length buffer → take n buffer ≡ take n (left_after input calls)
     → left_after input calls ≡ take n buffer ++ left_after input (calls ++ Take asked (Some (take n buffer)) ∷ [])
@@ -214,8 +219,9 @@ pub two : {P D : Type 0} (past : Bool) (r : Recording) (n : ℕ)
     → (IsTrue past ⊎ (HasRoom r n → ⊥) → P) → (IsFalse past → HasRoom r n → D) → P ⊎ (IsFalse past × D)
 two true r n gone done = inl (gone (inl refl))
 two false r n gone done = elim (cases_lt r.room (cost r.calls + 64 + n)) [
-    inl more ↦ inl (gone (inr (λ fits. absurd (omega (arith, more, fits)))))
-  | inr fits ↦ inr (refl, done refl fits) ]
+  | inl more ↦ inl (gone (inr (λ fits. absurd (omega (arith, more, fits)))))
+  | inr fits ↦ inr (refl, done refl fits)
+]
 
 -- past the room nothing is told
 pub told_none : {A : Type 0} (b : Bool) (x : A) (P : A → A → Type 0) → Told (if b then None else Some x) None P
@@ -235,7 +241,10 @@ gone_follows image untold = record { only = λ c none. absurd none; all = λ h d
 pub gone_time : {told : Type 0} (moment stamp : ℕ) (past : ℕ → Files → ℕ → Type 0) (image : ℕ → List ℕ → Type 0) → (told → ⊥)
     → Elapses told moment moment past (λ _ _ _. ⊥) image stamp stamp
 gone_time moment stamp past image untold = record {
-  later = omega arith; nothing_else = λ t files s before none. absurd none; keeps = λ h t files s before was. absurd (untold h) }
+  later = omega arith;
+  nothing_else = λ t files s before none. absurd none;
+  keeps = λ h t files s before was. absurd (untold h);
+}
 
 -- a condition on what is told, where it is told
 pub condition : (b : Bool) (x : List ℕ) (P : List ℕ → Type 0) → IsFalse b → IfSome (if b then None else Some x) P → P x

@@ -37,5 +37,6 @@ rose_first a b c rose stands = λ room. let lt : a < b = rose room in omega (ari
 
 pub rose_second : (a b c : ℕ) → a ≤ b → Rose b c → b ≤ c → Rose a c
 rose_second a b c stands rose stands_too = λ room. elim (cases_lt b (2 ^ 64 - 1)) [
-    inl lt ↦ (let more : b < c = rose lt in omega (arith, more, stands))
-  | inr full ↦ omega (arith, full, stands_too, room) ]
+  | inl lt ↦ (let more : b < c = rose lt in omega (arith, more, stands))
+  | inr full ↦ omega (arith, full, stands_too, room)
+]

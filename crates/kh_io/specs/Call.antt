@@ -21,7 +21,7 @@ pub data Call : Type 0 where
 
 -- the one error of a call
 abbrev pub failed : Failed
-failed = record { }
+failed = record {}
 
 -- the answer of a call, as the journal has it
 abbrev pub answer : {A : Type 0} → Result A Failed → Option A

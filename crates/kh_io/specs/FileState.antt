@@ -24,7 +24,8 @@ written s at bytes done = record {
   now = if done then put s.now at bytes else s.now;
   least = s.least;
   most = max s.most (at + length bytes);
-  loose = (at, length bytes) ∷ s.loose }
+  loose = (at, length bytes) ∷ s.loose;
+}
 
 -- after a cut to a length; one that failed has changed nothing that a read gives, and may have left any length between
 abbrev pub cut_to : FileState → ℕ → Bool → FileState
@@ -32,7 +33,8 @@ cut_to s len done = record {
   now = if done then take len s.now else s.now;
   least = min s.least len;
   most = s.most;
-  loose = s.loose }
+  loose = s.loose;
+}
 
 -- the file of this number after a call
 abbrev pub after : ℕ → FileState → Call → FileState

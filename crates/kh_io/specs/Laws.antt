@@ -1,6 +1,6 @@
 -- The laws of a host in memory.
 use Rattle.std.specs.Prelude.{◌≡◌, ℕ, ◌+◌, ◌-◌, ◌≤◌, max, min, Bool, true, false, ◌&&◌, if◌then◌else◌, ◌==◌, List, [], ◌∷◌, length, take, drop, fold, refl, Some, None, Option, MatchBool, is_some}
-use Rattle.std.proofs.lemmas.Bool.{false≢true}
+use Rattle.std.proofs.lemmas.Bool.{false≢true, true≢false}
 use Rattle.kh_io.specs.Sound.{Sound, told, sound_image, sound_since}
 use Rattle.std.proofs.Common.{arith, sym, ◌∙◌, ap, subst, length-append, length-drop}
 use Rattle.std.proofs.lemmas.List.{length-take, take_all}
@@ -24,7 +24,7 @@ sane_written : (s : FileState) (at : ℕ) (bytes : List ℕ) (done : Bool) → S
 sane_written s at bytes false sane = record { least = sane.least; most = omega (arith, sane.most) }
 sane_written s at bytes true sane =
     let len : length (put s.now at bytes) ≡ min at (length s.now) + length bytes + (length s.now - (at + length bytes)) =
-        grind (arith, length-append, length-take, length-drop) in
+    grind (arith, length-append, length-take, length-drop) in
     record { least = rw len (omega (arith, sane.least)); most = rw len (omega (arith, sane.most)) }
 
 sane_cut : (s : FileState) (len : ℕ) (done : Bool) → Sane s → Sane (cut_to s len done)
@@ -92,31 +92,35 @@ none_not_some {A} same = false≢true (ap is_some same)
 pub sound_seen_is_left : (s : Sound) (file : ℕ) (bytes : List ℕ)
     → told s (seen_after s.tape.first s.tape.calls file) ≡ Some bytes → sound_image s file bytes
 sound_seen_is_left s file bytes same = elim s.past as (λ b.
-      (if b then None else Some (seen_after s.tape.first s.tape.calls file)) ≡ Some bytes → MatchBool b ⊥ (image_after s.tape.first s.tape.calls file bytes)) [
-    true ↦ λ none. absurd (none_not_some none)
-  | false ↦ λ yes. seen_is_left s.tape.first s.tape.calls file bytes yes ] same
+    (if b then None else Some (seen_after s.tape.first s.tape.calls file)) ≡ Some bytes → MatchBool b ⊥ (image_after s.tape.first s.tape.calls file bytes)) [
+      | true ↦ λ none. absurd (none_not_some none)
+      | false ↦ λ yes. seen_is_left s.tape.first s.tape.calls file bytes yes
+    ] same
 
 pub sound_stamp_is : (s : Sound) (bytes : List ℕ) → told s (given_in s.tape.calls) ≡ Some bytes → length (given_in s.tape.calls) ≡ length bytes
 sound_stamp_is s bytes same = elim s.past as (λ b.
-      (if b then None else Some (given_in s.tape.calls)) ≡ Some bytes → length (given_in s.tape.calls) ≡ length bytes) [
-    true ↦ λ none. absurd (none_not_some none)
-  | false ↦ λ yes. stamp_is (given_in s.tape.calls) bytes yes ] same
+    (if b then None else Some (given_in s.tape.calls)) ≡ Some bytes → length (given_in s.tape.calls) ≡ length bytes) [
+      | true ↦ λ none. absurd (none_not_some none)
+      | false ↦ λ yes. stamp_is (given_in s.tape.calls) bytes yes
+    ] same
 
 pub sound_now_since : (s : Sound) (t : ℕ) (files : Files) → t ≤ length s.tape.calls
     → AreImages (sound_image s) files → sound_since s t files (length (given_in s.tape.calls))
 sound_now_since s t files le images = elim s.past as (λ b.
-      AreImages (λ file bytes. MatchBool b ⊥ (image_after s.tape.first s.tape.calls file bytes)) files
-      → MatchBool b ⊥ (left_since s.tape.first s.tape.calls t files (length (given_in s.tape.calls)))) [
-    true ↦ λ none. none 0 (omega arith)
-  | false ↦ λ all. now_since s.tape.first s.tape.calls t files le all ] images
+    AreImages (λ file bytes. MatchBool b ⊥ (image_after s.tape.first s.tape.calls file bytes)) files
+    → MatchBool b ⊥ (left_since s.tape.first s.tape.calls t files (length (given_in s.tape.calls)))) [
+      | true ↦ λ none. none 0 (omega arith)
+      | false ↦ λ all. now_since s.tape.first s.tape.calls t files le all
+    ] images
 
 pub sound_since_now : (s : Sound) (files : Files) (stamp : ℕ) → sound_since s (length s.tape.calls) files stamp
     → AreImages (sound_image s) files × (stamp ≡ length (given_in s.tape.calls))
 sound_since_now s files stamp left = elim s.past as (λ b.
-      MatchBool b ⊥ (left_since s.tape.first s.tape.calls (length s.tape.calls) files stamp)
-      → AreImages (λ file bytes. MatchBool b ⊥ (image_after s.tape.first s.tape.calls file bytes)) files × (stamp ≡ length (given_in s.tape.calls))) [
-    true ↦ λ none. absurd none
-  | false ↦ λ some. since_now s.tape.first s.tape.calls files stamp some ] left
+    MatchBool b ⊥ (left_since s.tape.first s.tape.calls (length s.tape.calls) files stamp)
+    → AreImages (λ file bytes. MatchBool b ⊥ (image_after s.tape.first s.tape.calls file bytes)) files × (stamp ≡ length (given_in s.tape.calls))) [
+      | true ↦ λ none. absurd none
+      | false ↦ λ some. since_now s.tape.first s.tape.calls files stamp some
+    ] left
 
 -- and of a host that tells nothing
 pub untold_is_left : {A : Type 0} (bytes : List ℕ) → None ≡ Some bytes → A
@@ -124,3 +128,13 @@ untold_is_left bytes same = absurd (none_not_some same)
 
 pub untold_images : {A : Type 0} (files : Files) → AreImages (λ _ _. ⊥) files → A
 untold_images files none = absurd (none 0 (omega arith))
+
+-- what is told isn't untold
+pub some_not_none : {A : Type 0} {a : A} → Some a ≡ None → ⊥
+some_not_none {A} same = true≢false (ap is_some same)
+
+pub sound_untold : (s : Sound) (file : ℕ) (bytes : List ℕ) → told s (seen_after s.tape.first s.tape.calls file) ≡ None → sound_image s file bytes → ⊥
+sound_untold s file bytes untold image = elim s.past as (λ b.
+      (if b then None else Some (seen_after s.tape.first s.tape.calls file)) ≡ None → MatchBool b ⊥ (image_after s.tape.first s.tape.calls file bytes) → ⊥) [
+    true ↦ λ none left. left
+  | false ↦ λ some left. absurd (some_not_none some) ] untold image

@@ -23,7 +23,13 @@ blank input first room = record { input = input; first = first; calls = []; room
 -- a host before its first call
 abbrev pub fresh : List ℕ → Files → List ℕ → ℕ → Memory
 fresh input first failing room = record {
-  tape = blank input first room; tells = true; failing = failing; disk_faults = 0; read_faults = 0; write_faults = 0 }
+  tape = blank input first room;
+  tells = true;
+  failing = failing;
+  disk_faults = 0;
+  read_faults = 0;
+  write_faults = 0;
+}
 
 -- its journal: all its calls, while none was past the room
 abbrev pub journal_of : Memory → Option (List Call)

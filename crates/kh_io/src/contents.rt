@@ -89,8 +89,9 @@ impl Contents {
         requires place { at ≤ length (file_of self.old.files file) }
         requires room { length bytes.now ≤ self.old.free }
         ensures { self.new ≡ record {
-            files = with_file self.old.files file (put (file_of self.old.files file) at bytes.now);
-            free = self.old.free - length bytes.now } }
+          files = with_file self.old.files file (put (file_of self.old.files file) at bytes.now);
+          free = self.old.free - length bytes.now;
+        } }
     {
         self.free -= bytes.len() as u64;
         match file {
@@ -105,8 +106,9 @@ impl Contents {
     pub fn cut(&mut self, file: u8, len: usize)
         requires { file < 4 }
         ensures { self.new ≡ record {
-            files = with_file self.old.files file (take len (file_of self.old.files file));
-            free = self.old.free } }
+          files = with_file self.old.files file (take len (file_of self.old.files file));
+          free = self.old.free;
+        } }
     {
         match file {
             0 => self.s0.truncate(len),

@@ -1,5 +1,5 @@
 //! The outside as the store sees it.
-ghost use Rattle.std.specs.Prelude.{◌≡◌, ◌<◌, ◌≤◌, ◌+◌, ◌^◌, ℕ, List, Option, Some, length, take, is_ok, IsOk, IsSome, IfSome, IfOk, OnOk, OnErr};
+ghost use Rattle.std.specs.Prelude.{◌≡◌, ◌<◌, ◌≤◌, ◌+◌, ◌^◌, ℕ, List, Option, Some, None, length, take, is_ok, IsOk, IsSome, IfSome, IfOk, OnOk, OnErr};
 ghost use Rattle.kh_io.specs.declared.files.Files.{Files};
 ghost use Rattle.kh_io.specs.Call.{Call, Take, Give, Len, ReadAt, WriteAt, Cut, Sync, answer, front_given};
 ghost use Rattle.kh_io.specs.Told.{Told, Kept, Gains, Rose};
@@ -15,7 +15,7 @@ pub trait Disk {
     /// What a read gives of each file, where told.
     ghost seen: { Self → ℕ → Option (List ℕ) };
 
-    /// What a crash at this moment may leave of each file.
+    /// What a crash at this moment may leave of each file, where told.
     ghost image: { Self → ℕ → List ℕ → Type 0 };
 
     /// The moment, as a number that doesn't fall.
@@ -138,6 +138,9 @@ pub trait Disk {
 
     /// What a read gives is one of the images.
     ghost seen_is_image: { (host : Self) (file : ℕ) (bytes : List ℕ) → file < 4 → seen host file ≡ Some bytes → image host file bytes };
+
+    /// Of a file that isn't told there is no image.
+    ghost untold_is_not_left: { (host : Self) (file : ℕ) (bytes : List ℕ) → file < 4 → seen host file ≡ None → image host file bytes → ⊥ };
 
     /// The stamp counts what the sink has taken.
     ghost stamp_counts: { (host : Self) (bytes : List ℕ) → given host ≡ Some bytes → stamp host ≡ length bytes };

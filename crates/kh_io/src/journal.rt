@@ -13,13 +13,39 @@ const PER_CALL: u64 = 64;
 /// A call without its bytes.
 #[derive(Clone, Copy)]
 pub enum Entry {
-    Taken { asked: usize, count: Option<usize> },
-    Given { len: usize, count: Option<usize> },
-    Asked { file: u8, len: Option<u64> },
-    Read { file: u8, at: u64, asked: usize, count: Option<usize> },
-    Written { file: u8, at: u64, len: usize, done: bool },
-    CutTo { file: u8, len: u64, done: bool },
-    Synced { file: u8, done: bool },
+    Taken {
+        asked: usize,
+        count: Option<usize>,
+    },
+    Given {
+        len: usize,
+        count: Option<usize>,
+    },
+    Asked {
+        file: u8,
+        len: Option<u64>,
+    },
+    Read {
+        file: u8,
+        at: u64,
+        asked: usize,
+        count: Option<usize>,
+    },
+    Written {
+        file: u8,
+        at: u64,
+        len: usize,
+        done: bool,
+    },
+    CutTo {
+        file: u8,
+        len: u64,
+        done: bool,
+    },
+    Synced {
+        file: u8,
+        done: bool,
+    },
 }
 
 impl Entry {

@@ -3,7 +3,6 @@ ghost use Rattle.std.specs.Prelude.{◌≡◌, ◌<◌, ◌≤◌, ◌+◌, ◌^
 ghost use Rattle.kh_io.specs.Call.{failed, Take, Give, Len, ReadAt, WriteAt, Cut, Sync};
 ghost use Rattle.kh_io.specs.Disk.{IsReadAt, AreImages};
 ghost use Rattle.kh_io.specs.Replay.{AreFilled};
-
 ghost use Rattle.kh_io.specs.Recording.{left_after, given_in, seen_after, image_after, left_since, HasRoom};
 
 use crate::journal::Entry;
@@ -33,8 +32,13 @@ impl Model for MemoryHost {
     ghost Value = { Memory };
 
     ghost view = { λ h. record {
-        tape = h.recorder; tells = h.tells; failing = h.failing.items;
-        disk_faults = h.disk_faults; read_faults = h.read_faults; write_faults = h.write_faults } };
+      tape = h.recorder;
+      tells = h.tells;
+      failing = h.failing.items;
+      disk_faults = h.disk_faults;
+      read_faults = h.read_faults;
+      write_faults = h.write_faults;
+    } };
 }
 
 impl MemoryHost {
@@ -116,7 +120,7 @@ impl MemoryHost {
 }
 
 impl Disk for MemoryHost {
-    ghost use Rattle.kh_io.specs.Laws.{seen_is_left, stamp_is, now_since, since_now};
+    ghost use Rattle.kh_io.specs.Laws.{seen_is_left, some_not_none, stamp_is, now_since, since_now};
     ghost use Rattle.kh_io.specs.Memory.{journal_of, is_listed, add_call, stopped, disk_fault, read_moves, read_len};
 
     ghost seen = { λ m file. Some (seen_after m.tape.first m.tape.calls file) };
@@ -142,6 +146,8 @@ impl Disk for MemoryHost {
     ghost write_faults = { λ m. m.write_faults };
 
     ghost seen_is_image = { λ m file bytes lt same. seen_is_left m.tape.first m.tape.calls file bytes same };
+
+    ghost untold_is_not_left = { λ _ _ _ _ same _. some_not_none same };
 
     ghost stamp_counts = { λ m bytes same. stamp_is (given_in m.tape.calls) bytes same };
 

@@ -256,6 +256,8 @@ impl<R: Runtime> Disk for RealHost<R> {
 
     ghost seen_is_image = { λ _ _ bytes _ same. untold_is_left bytes same };
 
+    ghost untold_is_not_left = { λ _ _ _ _ _ none. none };
+
     ghost stamp_counts = { λ _ bytes same. untold_is_left bytes same };
 
     ghost counts_now = { λ _ _ files _ images. untold_images files images };

@@ -52,12 +52,7 @@ pub fn read_count(len: usize, at: u64, asked: usize) -> usize
 
 impl Recorder {
     /// A host before its first call, which takes the memory of its room.
-    pub fn new(
-        alloc: Global,
-        input: Vec<u8>,
-        first: Files,
-        room: u64,
-    ) -> Result<Recorder, NoMemory>
+    pub fn new(alloc: Global, input: Vec<u8>, first: Files, room: u64) -> Result<Recorder, NoMemory>
         ensures { IfOk result (λ r. r ≡ record { input = input.items; first = first; calls = []; room = room }) }
     {
         let journal = Journal::new(alloc, room)?;

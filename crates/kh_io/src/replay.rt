@@ -6,9 +6,8 @@ ghost use Rattle.kh_io.specs.FileState.{FileState, synced, written, cut_to, afte
 ghost use Rattle.kh_io.specs.Entry.{byte_count, call_of, calls_of};
 ghost use Rattle.kh_io.specs.Replay.{Replayed, Shows, is_loose_at, IsFilled};
 
-use crate::{FileBytes, NoMemory};
-use crate::contents;
 use crate::journal::Entry;
+use crate::{FileBytes, NoMemory, contents};
 use std::alloc::Global;
 use std::marker::Model;
 
@@ -43,9 +42,10 @@ impl Replay {
 
     fn write(&mut self, at: u64, bytes: &[u8], done: bool) -> Result<(), NoMemory>
         ensures { OnOk result (self.new ≡ record {
-            bytes = if done then put self.old.bytes at bytes.now else self.old.bytes;
-            least = self.old.least;
-            loose = (at, length bytes.now) ∷ self.old.loose }) }
+          bytes = if done then put self.old.bytes at bytes.now else self.old.bytes;
+          least = self.old.least;
+          loose = (at, length bytes.now) ∷ self.old.loose;
+        }) }
     {
         self.loose.push((at, bytes.len()))?;
         if done {
@@ -58,9 +58,10 @@ impl Replay {
 
     fn cut(&mut self, len: u64, done: bool)
         ensures { self.new ≡ record {
-            bytes = if done then take len self.old.bytes else self.old.bytes;
-            least = min self.old.least len;
-            loose = self.old.loose } }
+          bytes = if done then take len self.old.bytes else self.old.bytes;
+          least = min self.old.least len;
+          loose = self.old.loose;
+        } }
     {
         self.least = self.least.min(len);
         if done {
@@ -80,8 +81,17 @@ impl Replay {
         ensures { OnOk result ((s : FileState) → Shows s self.old → Shows (after file s (call_of entry.now bytes.now)) self.new) }
     {
         match *entry {
-            Entry::Written { file: this, at, done, .. } if this == file => self.write(at, bytes, done)?,
-            Entry::CutTo { file: this, len, done } if this == file => self.cut(len, done),
+            Entry::Written {
+                file: this,
+                at,
+                done,
+                ..
+            } if this == file => self.write(at, bytes, done)?,
+            Entry::CutTo {
+                file: this,
+                len,
+                done,
+            } if this == file => self.cut(len, done),
             Entry::Synced { file: this, done } if this == file && done => self.sync(),
             _ => {}
         }

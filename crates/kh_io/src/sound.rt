@@ -72,7 +72,7 @@ impl SoundHost {
 }
 
 impl Disk for SoundHost {
-    ghost use Rattle.kh_io.specs.Laws.{sound_seen_is_left, sound_stamp_is, sound_now_since, sound_since_now};
+    ghost use Rattle.kh_io.specs.Laws.{sound_seen_is_left, sound_untold, sound_stamp_is, sound_now_since, sound_since_now};
     ghost use Rattle.kh_io.specs.Sound.{told, sound_image, sound_since, with_call, gone};
 
     ghost seen = { λ h file. told h (seen_after h.tape.first h.tape.calls file) };
@@ -98,6 +98,8 @@ impl Disk for SoundHost {
     ghost write_faults = { λ _. 0 };
 
     ghost seen_is_image = { λ h file bytes lt same. sound_seen_is_left h file bytes same };
+
+    ghost untold_is_not_left = { λ h file bytes _ same image. sound_untold h file bytes same image };
 
     ghost stamp_counts = { λ h bytes same. sound_stamp_is h bytes same };
 

@@ -2,6 +2,7 @@
 use crate::{Disk, Failed, FileBytes, Files, Host, MemoryHost, RealHost, SoundHost};
 use std::alloc::{AllocError, Global};
 use std::fs;
+use std::process::Abort;
 use std::test::Fail;
 
 const ROOM: u64 = 16_777_216;
@@ -128,15 +129,23 @@ enum Step {
 }
 
 // One call on file 1.
-fn step<H: Host>(host: &mut H, step: Step) -> Result<(), Failed> {
+fn do_step<H: Host>(host: &mut H, step: Step) -> Result<(), Failed> {
     match step {
         Step::Write(at, bytes) => {
             let len = host.len(1)?;
-            if at <= len { host.write_at(1, at, bytes) } else { Err(Failed) }
+            if at <= len && len < 100 && bytes.len() < 100 {
+                host.write_at(1, at, bytes)
+            } else {
+                Err(Failed)
+            }
         }
         Step::Cut(to) => {
             let len = host.len(1)?;
-            if to <= len { host.cut(1, to) } else { Err(Failed) }
+            if to <= len {
+                host.cut(1, to)
+            } else {
+                Err(Failed)
+            }
         }
         Step::Sync => host.sync(1),
     }
@@ -154,95 +163,172 @@ fn image(host: &MemoryHost, calls: u64, fill: Option<u8>) -> Result<(FileBytes, 
     if calls > host.calls() {
         return Err(Fail::from("fewer calls were made"));
     }
-    let Files { s0: _, l0, s1: _, l1 } = host.image(calls, fill)?;
+    let Files {
+        s0: _,
+        l0,
+        s1: _,
+        l1,
+    } = host.image(calls, fill)?;
     Ok((l0, l1))
 }
 
-const STEPS: [(Step, &[u8], &[u8]); 6] = [
-    (Step::Write(2, b"XY"), b"abXYef", b"ab..ef"),
-    (Step::Sync, b"abXYef", b"abXYef"),
-    (Step::Cut(3), b"abX", b"abX"),
-    (Step::Write(3, b"Q"), b"abXQ", b"abX."),
-    (Step::Sync, b"abXQ", b"abXQ"),
-    (Step::Write(4, b"long"), b"abXQlong", b"abXQ...."),
+// A step, file 1 as a read finds it then, and its crash image in which what isn't yet safe is filled.
+struct Row {
+    step: Step,
+    read: &'static [u8],
+    torn: &'static [u8],
+}
+
+static STEPS: [Row; 6] = [
+    Row {
+        step: Step::Write(2, b"XY"),
+        read: b"abXYef",
+        torn: b"ab..ef",
+    },
+    Row {
+        step: Step::Sync,
+        read: b"abXYef",
+        torn: b"abXYef",
+    },
+    Row {
+        step: Step::Cut(3),
+        read: b"abX",
+        torn: b"abX",
+    },
+    Row {
+        step: Step::Write(3, b"Q"),
+        read: b"abXQ",
+        torn: b"abX.",
+    },
+    Row {
+        step: Step::Sync,
+        read: b"abXQ",
+        torn: b"abXQ",
+    },
+    Row {
+        step: Step::Write(4, b"long"),
+        read: b"abXQlong",
+        torn: b"abXQ....",
+    },
 ];
+
+// File 1 after a step: what a read finds, the image as written, and the one in which what isn't yet safe is filled.
+fn left(
+    alloc: Global,
+    host: &mut MemoryHost,
+    one: Step,
+) -> Result<(Vec<u8>, FileBytes, FileBytes), Fail> {
+    do_step(host, one)?;
+    let calls = host.calls();
+    let read = content(alloc, host)?;
+    let (written, _) = image(host, calls, None)?;
+    let (torn, _) = image(host, calls, Some(b'.'))?;
+    Ok((read, written, torn))
+}
+
+fn check(rt: &impl Abort, got: &[u8], want: &[u8]) {
+    assert_eq!(rt; got, want);
+}
+
+fn check_row(rt: &impl Abort, alloc: Global, host: &mut MemoryHost, row: &Row) -> Result<(), Fail> {
+    let (read, written, torn) = left(alloc, host, row.step)?;
+    check(rt, &read, row.read);
+    check(rt, written.as_slice(), row.read);
+    check(rt, torn.as_slice(), row.torn);
+    Ok(())
+}
 
 #[test]
 fn images_fill_what_is_not_yet_safe(rt: HostRuntime) -> Result<(), Fail> {
     let alloc = rt.alloc();
     let mut host = host(alloc, b"", &[], ROOM)?;
-    for (one, read, torn) in STEPS {
-        step(&mut host, one)?;
-        let calls = host.calls();
-        assert_eq!(rt; content(alloc, &mut host)?.as_slice(), read);
-        let (l0, l1) = image(&host, calls, Some(b'.'))?;
-        assert_eq!(rt; l0.as_slice(), torn);
-        assert_eq!(rt; l1.as_slice(), b"log".as_slice());
-        let (l0, _) = image(&host, calls, None)?;
-        assert_eq!(rt; l0.as_slice(), read);
+    for row in &STEPS {
+        check_row(&rt, alloc, &mut host, row)?;
     }
     let (l0, _) = image(&host, 2, Some(b'.'))?;
     assert_eq!(rt; l0.as_slice(), b"ab..ef".as_slice());
     Ok(())
 }
 
-const FAILURES: [(u64, Step, &[u8]); 3] = [
-    (1, Step::Write(2, b"XY"), b"ab..ef"),
-    (1, Step::Write(5, b"long"), b"abcde."),
-    (1, Step::Cut(3), b"abc..."),
-];
+// The image after a step on a host whose call of this number fails, where the step failed.
+fn failed_image(alloc: Global, number: u64, one: Step) -> Result<FileBytes, Fail> {
+    let mut host = host(alloc, b"", &[number], ROOM)?;
+    if do_step(&mut host, one).is_ok() {
+        return Err(Fail::from("the step did not fail"));
+    }
+    let (l0, _) = image(&host, 2, Some(b'.'))?;
+    Ok(l0)
+}
 
 #[test]
-fn a_failed_call_of_the_disk_changes_no_read(rt: HostRuntime) -> Result<(), Fail> {
+fn a_failed_write_or_cut_is_torn(rt: HostRuntime) -> Result<(), Fail> {
     let alloc = rt.alloc();
-    for (number, one, torn) in FAILURES {
-        let mut host = host(alloc, b"", &[number], ROOM)?;
-        assert_eq!(rt; step(&mut host, one), Err(Failed));
-        assert_eq!(rt; content(alloc, &mut host)?.as_slice(), b"abcdef".as_slice());
-        let (l0, _) = image(&host, 2, Some(b'.'))?;
-        assert_eq!(rt; l0.as_slice(), torn);
-    }
-    // A failed sync makes nothing safe.
+    let write = failed_image(alloc, 1, Step::Write(2, b"XY"))?;
+    assert_eq!(rt; write.as_slice(), b"ab..ef".as_slice());
+    let long = failed_image(alloc, 1, Step::Write(5, b"long"))?;
+    assert_eq!(rt; long.as_slice(), b"abcde.".as_slice());
+    let cut = failed_image(alloc, 1, Step::Cut(3))?;
+    assert_eq!(rt; cut.as_slice(), b"abc...".as_slice());
+    Ok(())
+}
+
+#[test]
+fn a_failed_sync_makes_nothing_safe(rt: HostRuntime) -> Result<(), Fail> {
+    let alloc = rt.alloc();
     let mut host = host(alloc, b"", &[2], ROOM)?;
-    step(&mut host, Step::Write(2, b"XY"))?;
-    assert_eq!(rt; step(&mut host, Step::Sync), Err(Failed));
+    do_step(&mut host, Step::Write(2, b"XY"))?;
+    assert_eq!(rt; do_step(&mut host, Step::Sync), Err(Failed));
     let (l0, _) = image(&host, 3, Some(b'.'))?;
     assert_eq!(rt; l0.as_slice(), b"ab..ef".as_slice());
     Ok(())
 }
 
-#[test]
-fn a_sound_host_does_what_a_memory_host_does(rt: HostRuntime) -> Result<(), Fail> {
-    let alloc = rt.alloc();
-    let mut host = SoundHost::new(alloc, INPUT.to_vec(alloc)?, files(alloc)?, ROOM)?;
+// What a host answers to one call of each kind, as text.
+fn answers<H: Host>(alloc: Global, host: &mut H) -> Result<String, Fail> {
     let mut buffer = [0u8; 7];
-    let all = all_taken(alloc, &mut host, &mut buffer)?;
-    assert_eq!(rt; all.as_slice(), INPUT);
-    for (one, read, _) in STEPS {
-        step(&mut host, one)?;
-        assert_eq!(rt; content(alloc, &mut host)?.as_slice(), read);
-    }
-    let whole = all_given(alloc, &mut host, &[b"ok", b".\n"])?;
-    assert_eq!(rt; whole.as_slice(), [true, true].as_slice());
-    assert_eq!(rt; host.output(), b"ok.\n".as_slice());
-    let calls = host.calls();
-    assert_eq!(rt; host.image(calls, Some(b'.'))?.l0.as_slice(), b"abXQ....".as_slice());
-    Ok(())
+    let len = host.len(1)?;
+    let read = host.read_at(1, 0, &mut buffer)?;
+    let taken = host.take(&mut buffer)?;
+    let given = host.give(b"ok")?;
+    Ok(format!(in alloc; "{len} {read} {taken} {given}")?)
+}
+
+fn sound(alloc: Global, room: u64) -> Result<SoundHost, Fail> {
+    Ok(SoundHost::new(alloc, INPUT.to_vec(alloc)?, files(alloc)?, room)?)
+}
+
+fn sound_answers(alloc: Global, room: u64) -> Result<String, Fail> {
+    let mut host = sound(alloc, room)?;
+    answers(alloc, &mut host)
 }
 
 #[test]
 fn a_sound_host_past_its_room_keeps_nothing(rt: HostRuntime) -> Result<(), Fail> {
     let alloc = rt.alloc();
-    let mut host = SoundHost::new(alloc, INPUT.to_vec(alloc)?, files(alloc)?, 64)?;
-    let mut buffer = [0u8; 7];
-    assert_eq!(rt; host.len(1), Ok(6));
-    assert_eq!(rt; host.len(1), Ok(0));
-    assert_eq!(rt; host.read_at(1, 0, &mut buffer), Ok(0));
-    assert_eq!(rt; host.take(&mut buffer), Ok(0));
-    assert_eq!(rt; host.give(b"ok"), Ok(2));
-    assert_eq!(rt; host.sync(1), Ok(()));
-    assert_eq!(rt; host.calls(), 1);
-    assert_eq!(rt; host.output(), b"".as_slice());
+    let within = sound_answers(alloc, ROOM)?;
+    assert_eq!(rt; within.as_str(), "6 6 7 2");
+    let past = sound_answers(alloc, 64)?;
+    assert_eq!(rt; past.as_str(), "6 0 0 2");
+    Ok(())
+}
+
+// The content after some steps.
+fn after_steps<H: Host>(alloc: Global, host: &mut H, rows: &[Row]) -> Result<Vec<u8>, Fail> {
+    for row in rows {
+        do_step(host, row.step)?;
+    }
+    content(alloc, host)
+}
+
+#[test]
+fn a_sound_host_keeps_files(rt: HostRuntime) -> Result<(), Fail> {
+    let alloc = rt.alloc();
+    let mut host = sound(alloc, ROOM)?;
+    let read = after_steps(alloc, &mut host, &STEPS)?;
+    assert_eq!(rt; read.as_slice(), b"abXQlong".as_slice());
+    let calls = host.calls();
+    let image = host.image(calls, Some(b'.'))?;
+    assert_eq!(rt; image.l0.as_slice(), b"abXQ....".as_slice());
     Ok(())
 }
 
@@ -251,13 +337,12 @@ fn the_real_host_reads_what_it_wrote(rt: HostRuntime) -> Result<(), Fail> {
     let alloc = rt.alloc();
     let mut host = RealHost::new(rt.clone()?);
     host.cut(1, 0)?;
-    step(&mut host, Step::Write(0, b"abcdef"))?;
-    step(&mut host, Step::Sync)?;
-    step(&mut host, Step::Cut(4))?;
-    step(&mut host, Step::Write(4, b"XYZ"))?;
-    assert_eq!(rt; content(alloc, &mut host)?.as_slice(), b"abcdXYZ".as_slice());
+    do_step(&mut host, Step::Write(0, b"abcdef"))?;
+    let read = after_steps(alloc, &mut host, &STEPS)?;
+    assert_eq!(rt; read.as_slice(), b"abXQlong".as_slice());
     let mut again = RealHost::new(rt.clone()?);
-    assert_eq!(rt; content(alloc, &mut again)?.as_slice(), b"abcdXYZ".as_slice());
+    let kept = content(alloc, &mut again)?;
+    assert_eq!(rt; kept.as_slice(), b"abXQlong".as_slice());
     fs::remove_file(&rt, "khepri.l0")?;
     Ok(())
 }

@@ -10,149 +10,268 @@ use Rattle.kh_io.proofs.memory.MemoryHostDisk.TheImpl.Goals as goal
 pub len-tells : goal.len-tells
 len-tells c =
     elim (three c.args.self.now.tape (0) (is_listed c.args.self.now) c.ensures.past c.ensures.listed c.ensures.done) [
-      inl p ↦ rw (p.0, p.1) (record {
-         length = tt; files = λ file lt. stays_same c.args.self.now.tape.first c.args.self.now.tape.calls c.args.self.now.tape.calls file refl;
-         time = time_stands _ c.args.self.now.tape.first c.args.self.now.tape.calls;
-         no_fault = tt; fault = one_more_rose c.args.self.now.disk_faults; faults_stand = one_more_stands c.args.self.now.disk_faults;
-         stamp = refl; input = refl; sink = refl; read_faults = refl; write_faults = refl;
-         entry = gains_stopped c.args.self.now.tells c.args.self.now.tape.calls (Len c.args.file None) })
-    | inr q ↦ elim q [
-        inl l ↦ rw (l.0, l.1) (record {
-         length = tt; files = λ file lt. stays_quiet c.args.self.now.tape.first c.args.self.now.tape.calls (Len c.args.file None) file (quiet_len file c.args.file None);
-         time = time_noted _ c.args.self.now.tape.first c.args.self.now.tape.calls (Len c.args.file None);
-         no_fault = tt; fault = one_more_rose c.args.self.now.disk_faults; faults_stand = one_more_stands c.args.self.now.disk_faults;
-         stamp = ap length (sink_stays c.args.self.now.tape.calls (Len c.args.file None) refl);
-         input = input_stays c.args.self.now.tape.input c.args.self.now.tape.calls (Len c.args.file None) refl;
-         sink = sink_stays c.args.self.now.tape.calls (Len c.args.file None) refl; read_faults = refl; write_faults = refl;
-         entry = gains_noted c.args.self.now.tells c.args.self.now.tape.calls (Len c.args.file None) })
-      | inr d ↦ rw (d.0, d.1) (record {
-         length = refl; files = λ file lt. stays_quiet c.args.self.now.tape.first c.args.self.now.tape.calls (Len c.args.file (Some (length (seen_after c.args.self.now.tape.first c.args.self.now.tape.calls c.args.file)))) file (quiet_len file c.args.file (Some (length (seen_after c.args.self.now.tape.first c.args.self.now.tape.calls c.args.file))));
-         time = time_noted _ c.args.self.now.tape.first c.args.self.now.tape.calls (Len c.args.file (Some (length (seen_after c.args.self.now.tape.first c.args.self.now.tape.calls c.args.file))));
-         no_fault = refl; fault = tt; faults_stand = omega arith;
-         stamp = ap length (sink_stays c.args.self.now.tape.calls (Len c.args.file (Some (length (seen_after c.args.self.now.tape.first c.args.self.now.tape.calls c.args.file)))) refl);
-         input = input_stays c.args.self.now.tape.input c.args.self.now.tape.calls (Len c.args.file (Some (length (seen_after c.args.self.now.tape.first c.args.self.now.tape.calls c.args.file)))) refl;
-         sink = sink_stays c.args.self.now.tape.calls (Len c.args.file (Some (length (seen_after c.args.self.now.tape.first c.args.self.now.tape.calls c.args.file)))) refl; read_faults = refl; write_faults = refl;
-         entry = gains_noted c.args.self.now.tells c.args.self.now.tape.calls (Len c.args.file (Some (length (seen_after c.args.self.now.tape.first c.args.self.now.tape.calls c.args.file)))) }) ] ]
+      | inl p ↦ rw (p.0, p.1) (record {
+        length = tt;
+        files = λ file lt. stays_same c.args.self.now.tape.first c.args.self.now.tape.calls c.args.self.now.tape.calls file refl;
+        time = time_stands _ c.args.self.now.tape.first c.args.self.now.tape.calls;
+        no_fault = tt;
+        fault = one_more_rose c.args.self.now.disk_faults;
+        faults_stand = one_more_stands c.args.self.now.disk_faults;
+        stamp = refl;
+        input = refl;
+        sink = refl;
+        read_faults = refl;
+        write_faults = refl;
+        entry = gains_stopped c.args.self.now.tells c.args.self.now.tape.calls (Len c.args.file None);
+      })
+      | inr q ↦ elim q [
+        | inl l ↦ rw (l.0, l.1) (record {
+          length = tt;
+          files = λ file lt. stays_quiet c.args.self.now.tape.first c.args.self.now.tape.calls (Len c.args.file None) file (quiet_len file c.args.file None);
+          time = time_noted _ c.args.self.now.tape.first c.args.self.now.tape.calls (Len c.args.file None);
+          no_fault = tt;
+          fault = one_more_rose c.args.self.now.disk_faults;
+          faults_stand = one_more_stands c.args.self.now.disk_faults;
+          stamp = ap length (sink_stays c.args.self.now.tape.calls (Len c.args.file None) refl);
+          input = input_stays c.args.self.now.tape.input c.args.self.now.tape.calls (Len c.args.file None) refl;
+          sink = sink_stays c.args.self.now.tape.calls (Len c.args.file None) refl;
+          read_faults = refl;
+          write_faults = refl;
+          entry = gains_noted c.args.self.now.tells c.args.self.now.tape.calls (Len c.args.file None);
+        })
+        | inr d ↦ rw (d.0, d.1) (record {
+          length = refl;
+          files = λ file lt. stays_quiet c.args.self.now.tape.first c.args.self.now.tape.calls (Len c.args.file (Some (length (seen_after c.args.self.now.tape.first c.args.self.now.tape.calls c.args.file)))) file (quiet_len file c.args.file (Some (length (seen_after c.args.self.now.tape.first c.args.self.now.tape.calls c.args.file))));
+          time = time_noted _ c.args.self.now.tape.first c.args.self.now.tape.calls (Len c.args.file (Some (length (seen_after c.args.self.now.tape.first c.args.self.now.tape.calls c.args.file))));
+          no_fault = refl;
+          fault = tt;
+          faults_stand = omega arith;
+          stamp = ap length (sink_stays c.args.self.now.tape.calls (Len c.args.file (Some (length (seen_after c.args.self.now.tape.first c.args.self.now.tape.calls c.args.file)))) refl);
+          input = input_stays c.args.self.now.tape.input c.args.self.now.tape.calls (Len c.args.file (Some (length (seen_after c.args.self.now.tape.first c.args.self.now.tape.calls c.args.file)))) refl;
+          sink = sink_stays c.args.self.now.tape.calls (Len c.args.file (Some (length (seen_after c.args.self.now.tape.first c.args.self.now.tape.calls c.args.file)))) refl;
+          read_faults = refl;
+          write_faults = refl;
+          entry = gains_noted c.args.self.now.tells c.args.self.now.tape.calls (Len c.args.file (Some (length (seen_after c.args.self.now.tape.first c.args.self.now.tape.calls c.args.file))));
+        })
+      ]
+    ]
 
 pub read_at-tells : goal.read_at-tells
 read_at-tells c =
     elim (three c.args.self.now.tape (read_moves c.args.self.now c.args.file c.args.at (length c.args.into.now)) (is_listed c.args.self.now) c.ensures.past c.ensures.listed c.ensures.done) [
-      inl p ↦ rw (p.0, p.1) (record {
-         within = tt; bytes = tt; files = λ file lt. stays_same c.args.self.now.tape.first c.args.self.now.tape.calls c.args.self.now.tape.calls file refl;
-         time = time_stands _ c.args.self.now.tape.first c.args.self.now.tape.calls;
-         no_fault = tt; fault = one_more_rose c.args.self.now.disk_faults; faults_stand = one_more_stands c.args.self.now.disk_faults;
-         stamp = refl; input = refl; sink = refl; read_faults = refl; write_faults = refl;
-         entry = gains_stopped c.args.self.now.tells c.args.self.now.tape.calls (ReadAt c.args.file c.args.at (length c.new.into.now) None) })
-    | inr q ↦ elim q [
-        inl l ↦ rw (l.0, l.1) (record {
-         within = tt; bytes = tt; files = λ file lt. stays_quiet c.args.self.now.tape.first c.args.self.now.tape.calls (ReadAt c.args.file c.args.at (length c.new.into.now) None) file (quiet_read file c.args.file c.args.at (length c.new.into.now) None);
-         time = time_noted _ c.args.self.now.tape.first c.args.self.now.tape.calls (ReadAt c.args.file c.args.at (length c.new.into.now) None);
-         no_fault = tt; fault = one_more_rose c.args.self.now.disk_faults; faults_stand = one_more_stands c.args.self.now.disk_faults;
-         stamp = ap length (sink_stays c.args.self.now.tape.calls (ReadAt c.args.file c.args.at (length c.new.into.now) None) refl);
-         input = input_stays c.args.self.now.tape.input c.args.self.now.tape.calls (ReadAt c.args.file c.args.at (length c.new.into.now) None) refl;
-         sink = sink_stays c.args.self.now.tape.calls (ReadAt c.args.file c.args.at (length c.new.into.now) None) refl; read_faults = refl; write_faults = refl;
-         entry = gains_noted c.args.self.now.tells c.args.self.now.tape.calls (ReadAt c.args.file c.args.at (length c.new.into.now) None) })
-      | inr d ↦ rw (d.0, d.2) (record {
-         within = omega arith; bytes = d.1; files = λ file lt. stays_quiet c.args.self.now.tape.first c.args.self.now.tape.calls (ReadAt c.args.file c.args.at (length c.new.into.now) (Some (take (read_len c.args.self.now.tape c.args.file c.args.at (length c.new.into.now)) c.new.into.now))) file (quiet_read file c.args.file c.args.at (length c.new.into.now) (Some (take (read_len c.args.self.now.tape c.args.file c.args.at (length c.new.into.now)) c.new.into.now)));
-         time = time_noted _ c.args.self.now.tape.first c.args.self.now.tape.calls (ReadAt c.args.file c.args.at (length c.new.into.now) (Some (take (read_len c.args.self.now.tape c.args.file c.args.at (length c.new.into.now)) c.new.into.now)));
-         no_fault = refl; fault = tt; faults_stand = omega arith;
-         stamp = ap length (sink_stays c.args.self.now.tape.calls (ReadAt c.args.file c.args.at (length c.new.into.now) (Some (take (read_len c.args.self.now.tape c.args.file c.args.at (length c.new.into.now)) c.new.into.now))) refl);
-         input = input_stays c.args.self.now.tape.input c.args.self.now.tape.calls (ReadAt c.args.file c.args.at (length c.new.into.now) (Some (take (read_len c.args.self.now.tape c.args.file c.args.at (length c.new.into.now)) c.new.into.now))) refl;
-         sink = sink_stays c.args.self.now.tape.calls (ReadAt c.args.file c.args.at (length c.new.into.now) (Some (take (read_len c.args.self.now.tape c.args.file c.args.at (length c.new.into.now)) c.new.into.now))) refl; read_faults = refl; write_faults = refl;
-         entry = gains_noted c.args.self.now.tells c.args.self.now.tape.calls (ReadAt c.args.file c.args.at (length c.new.into.now) (Some (take (read_len c.args.self.now.tape c.args.file c.args.at (length c.new.into.now)) c.new.into.now))) }) ] ]
+      | inl p ↦ rw (p.0, p.1) (record {
+        within = tt;
+        bytes = tt;
+        files = λ file lt. stays_same c.args.self.now.tape.first c.args.self.now.tape.calls c.args.self.now.tape.calls file refl;
+        time = time_stands _ c.args.self.now.tape.first c.args.self.now.tape.calls;
+        no_fault = tt;
+        fault = one_more_rose c.args.self.now.disk_faults;
+        faults_stand = one_more_stands c.args.self.now.disk_faults;
+        stamp = refl;
+        input = refl;
+        sink = refl;
+        read_faults = refl;
+        write_faults = refl;
+        entry = gains_stopped c.args.self.now.tells c.args.self.now.tape.calls (ReadAt c.args.file c.args.at (length c.new.into.now) None);
+      })
+      | inr q ↦ elim q [
+        | inl l ↦ rw (l.0, l.1) (record {
+          within = tt;
+          bytes = tt;
+          files = λ file lt. stays_quiet c.args.self.now.tape.first c.args.self.now.tape.calls (ReadAt c.args.file c.args.at (length c.new.into.now) None) file (quiet_read file c.args.file c.args.at (length c.new.into.now) None);
+          time = time_noted _ c.args.self.now.tape.first c.args.self.now.tape.calls (ReadAt c.args.file c.args.at (length c.new.into.now) None);
+          no_fault = tt;
+          fault = one_more_rose c.args.self.now.disk_faults;
+          faults_stand = one_more_stands c.args.self.now.disk_faults;
+          stamp = ap length (sink_stays c.args.self.now.tape.calls (ReadAt c.args.file c.args.at (length c.new.into.now) None) refl);
+          input = input_stays c.args.self.now.tape.input c.args.self.now.tape.calls (ReadAt c.args.file c.args.at (length c.new.into.now) None) refl;
+          sink = sink_stays c.args.self.now.tape.calls (ReadAt c.args.file c.args.at (length c.new.into.now) None) refl;
+          read_faults = refl;
+          write_faults = refl;
+          entry = gains_noted c.args.self.now.tells c.args.self.now.tape.calls (ReadAt c.args.file c.args.at (length c.new.into.now) None);
+        })
+        | inr d ↦ rw (d.0, d.2) (record {
+          within = omega arith;
+          bytes = d.1;
+          files = λ file lt. stays_quiet c.args.self.now.tape.first c.args.self.now.tape.calls (ReadAt c.args.file c.args.at (length c.new.into.now) (Some (take (read_len c.args.self.now.tape c.args.file c.args.at (length c.new.into.now)) c.new.into.now))) file (quiet_read file c.args.file c.args.at (length c.new.into.now) (Some (take (read_len c.args.self.now.tape c.args.file c.args.at (length c.new.into.now)) c.new.into.now)));
+          time = time_noted _ c.args.self.now.tape.first c.args.self.now.tape.calls (ReadAt c.args.file c.args.at (length c.new.into.now) (Some (take (read_len c.args.self.now.tape c.args.file c.args.at (length c.new.into.now)) c.new.into.now)));
+          no_fault = refl;
+          fault = tt;
+          faults_stand = omega arith;
+          stamp = ap length (sink_stays c.args.self.now.tape.calls (ReadAt c.args.file c.args.at (length c.new.into.now) (Some (take (read_len c.args.self.now.tape c.args.file c.args.at (length c.new.into.now)) c.new.into.now))) refl);
+          input = input_stays c.args.self.now.tape.input c.args.self.now.tape.calls (ReadAt c.args.file c.args.at (length c.new.into.now) (Some (take (read_len c.args.self.now.tape c.args.file c.args.at (length c.new.into.now)) c.new.into.now))) refl;
+          sink = sink_stays c.args.self.now.tape.calls (ReadAt c.args.file c.args.at (length c.new.into.now) (Some (take (read_len c.args.self.now.tape c.args.file c.args.at (length c.new.into.now)) c.new.into.now))) refl;
+          read_faults = refl;
+          write_faults = refl;
+          entry = gains_noted c.args.self.now.tells c.args.self.now.tape.calls (ReadAt c.args.file c.args.at (length c.new.into.now) (Some (take (read_len c.args.self.now.tape c.args.file c.args.at (length c.new.into.now)) c.new.into.now)));
+        })
+      ]
+    ]
 
 pub write_at-tells : goal.write_at-tells
 write_at-tells c =
     elim (three c.args.self.now.tape (length c.args.bytes.now) (is_listed c.args.self.now) c.ensures.past c.ensures.listed c.ensures.done) [
-      inl p ↦ rw (p.0, p.1) (record {
-         written = tt; part_written = torn_none c.args.at (length c.args.bytes.now) (seen_after c.args.self.now.tape.first c.args.self.now.tape.calls c.args.file);
-         images = follows_none (image_after c.args.self.now.tape.first c.args.self.now.tape.calls c.args.file) (λ h. absurd (false≢true h.0)) (torn_none c.args.at (length c.args.bytes.now)); others = λ file lt other. stays_same c.args.self.now.tape.first c.args.self.now.tape.calls c.args.self.now.tape.calls file refl;
-         time = time_stands _ c.args.self.now.tape.first c.args.self.now.tape.calls;
-         no_fault = tt; fault = one_more_rose c.args.self.now.disk_faults; faults_stand = one_more_stands c.args.self.now.disk_faults;
-         stamp = refl; input = refl; sink = refl; read_faults = refl; write_faults = refl;
-         entry = gains_stopped c.args.self.now.tells c.args.self.now.tape.calls (WriteAt c.args.file c.args.at c.args.bytes.now false) })
-    | inr q ↦ elim q [
-        inl l ↦ rw (l.0, l.1) (record {
-         written = tt; part_written = rw (ap (λ s. s.now) (state_written c.args.self.now.tape.first c.args.self.now.tape.calls c.args.file c.args.at c.args.bytes.now false)) (torn_none c.args.at (length c.args.bytes.now) (seen_after c.args.self.now.tape.first c.args.self.now.tape.calls c.args.file));
-         images = follows_write _ c.args.self.now.tape.first c.args.self.now.tape.calls c.args.file c.args.at c.args.bytes.now false c.requires.start;
-         others = λ file lt other. stays_quiet c.args.self.now.tape.first c.args.self.now.tape.calls (WriteAt c.args.file c.args.at c.args.bytes.now false) file (quiet_write file c.args.file c.args.at c.args.bytes.now false other);
-         time = time_noted _ c.args.self.now.tape.first c.args.self.now.tape.calls (WriteAt c.args.file c.args.at c.args.bytes.now false);
-         no_fault = tt; fault = one_more_rose c.args.self.now.disk_faults; faults_stand = one_more_stands c.args.self.now.disk_faults;
-         stamp = ap length (sink_stays c.args.self.now.tape.calls (WriteAt c.args.file c.args.at c.args.bytes.now false) refl);
-         input = input_stays c.args.self.now.tape.input c.args.self.now.tape.calls (WriteAt c.args.file c.args.at c.args.bytes.now false) refl;
-         sink = sink_stays c.args.self.now.tape.calls (WriteAt c.args.file c.args.at c.args.bytes.now false) refl; read_faults = refl; write_faults = refl;
-         entry = gains_noted c.args.self.now.tells c.args.self.now.tape.calls (WriteAt c.args.file c.args.at c.args.bytes.now false) })
-      | inr d ↦ rw (d.0, d.1) (record {
-         written = ap (λ s. s.now) (state_written c.args.self.now.tape.first c.args.self.now.tape.calls c.args.file c.args.at c.args.bytes.now true); part_written = tt;
-         images = follows_write _ c.args.self.now.tape.first c.args.self.now.tape.calls c.args.file c.args.at c.args.bytes.now true c.requires.start;
-         others = λ file lt other. stays_quiet c.args.self.now.tape.first c.args.self.now.tape.calls (WriteAt c.args.file c.args.at c.args.bytes.now true) file (quiet_write file c.args.file c.args.at c.args.bytes.now true other);
-         time = time_noted _ c.args.self.now.tape.first c.args.self.now.tape.calls (WriteAt c.args.file c.args.at c.args.bytes.now true);
-         no_fault = refl; fault = tt; faults_stand = omega arith;
-         stamp = ap length (sink_stays c.args.self.now.tape.calls (WriteAt c.args.file c.args.at c.args.bytes.now true) refl);
-         input = input_stays c.args.self.now.tape.input c.args.self.now.tape.calls (WriteAt c.args.file c.args.at c.args.bytes.now true) refl;
-         sink = sink_stays c.args.self.now.tape.calls (WriteAt c.args.file c.args.at c.args.bytes.now true) refl; read_faults = refl; write_faults = refl;
-         entry = gains_noted c.args.self.now.tells c.args.self.now.tape.calls (WriteAt c.args.file c.args.at c.args.bytes.now true) }) ] ]
+      | inl p ↦ rw (p.0, p.1) (record {
+        written = tt;
+        part_written = torn_none c.args.at (length c.args.bytes.now) (seen_after c.args.self.now.tape.first c.args.self.now.tape.calls c.args.file);
+        images = follows_none (image_after c.args.self.now.tape.first c.args.self.now.tape.calls c.args.file) (λ h. absurd (false≢true h.0)) (torn_none c.args.at (length c.args.bytes.now));
+        others = λ file lt other. stays_same c.args.self.now.tape.first c.args.self.now.tape.calls c.args.self.now.tape.calls file refl;
+        time = time_stands _ c.args.self.now.tape.first c.args.self.now.tape.calls;
+        no_fault = tt;
+        fault = one_more_rose c.args.self.now.disk_faults;
+        faults_stand = one_more_stands c.args.self.now.disk_faults;
+        stamp = refl;
+        input = refl;
+        sink = refl;
+        read_faults = refl;
+        write_faults = refl;
+        entry = gains_stopped c.args.self.now.tells c.args.self.now.tape.calls (WriteAt c.args.file c.args.at c.args.bytes.now false);
+      })
+      | inr q ↦ elim q [
+        | inl l ↦ rw (l.0, l.1) (record {
+          written = tt;
+          part_written = rw (ap (λ s. s.now) (state_written c.args.self.now.tape.first c.args.self.now.tape.calls c.args.file c.args.at c.args.bytes.now false)) (torn_none c.args.at (length c.args.bytes.now) (seen_after c.args.self.now.tape.first c.args.self.now.tape.calls c.args.file));
+          images = follows_write _ c.args.self.now.tape.first c.args.self.now.tape.calls c.args.file c.args.at c.args.bytes.now false c.requires.start;
+          others = λ file lt other. stays_quiet c.args.self.now.tape.first c.args.self.now.tape.calls (WriteAt c.args.file c.args.at c.args.bytes.now false) file (quiet_write file c.args.file c.args.at c.args.bytes.now false other);
+          time = time_noted _ c.args.self.now.tape.first c.args.self.now.tape.calls (WriteAt c.args.file c.args.at c.args.bytes.now false);
+          no_fault = tt;
+          fault = one_more_rose c.args.self.now.disk_faults;
+          faults_stand = one_more_stands c.args.self.now.disk_faults;
+          stamp = ap length (sink_stays c.args.self.now.tape.calls (WriteAt c.args.file c.args.at c.args.bytes.now false) refl);
+          input = input_stays c.args.self.now.tape.input c.args.self.now.tape.calls (WriteAt c.args.file c.args.at c.args.bytes.now false) refl;
+          sink = sink_stays c.args.self.now.tape.calls (WriteAt c.args.file c.args.at c.args.bytes.now false) refl;
+          read_faults = refl;
+          write_faults = refl;
+          entry = gains_noted c.args.self.now.tells c.args.self.now.tape.calls (WriteAt c.args.file c.args.at c.args.bytes.now false);
+        })
+        | inr d ↦ rw (d.0, d.1) (record {
+          written = ap (λ s. s.now) (state_written c.args.self.now.tape.first c.args.self.now.tape.calls c.args.file c.args.at c.args.bytes.now true);
+          part_written = tt;
+          images = follows_write _ c.args.self.now.tape.first c.args.self.now.tape.calls c.args.file c.args.at c.args.bytes.now true c.requires.start;
+          others = λ file lt other. stays_quiet c.args.self.now.tape.first c.args.self.now.tape.calls (WriteAt c.args.file c.args.at c.args.bytes.now true) file (quiet_write file c.args.file c.args.at c.args.bytes.now true other);
+          time = time_noted _ c.args.self.now.tape.first c.args.self.now.tape.calls (WriteAt c.args.file c.args.at c.args.bytes.now true);
+          no_fault = refl;
+          fault = tt;
+          faults_stand = omega arith;
+          stamp = ap length (sink_stays c.args.self.now.tape.calls (WriteAt c.args.file c.args.at c.args.bytes.now true) refl);
+          input = input_stays c.args.self.now.tape.input c.args.self.now.tape.calls (WriteAt c.args.file c.args.at c.args.bytes.now true) refl;
+          sink = sink_stays c.args.self.now.tape.calls (WriteAt c.args.file c.args.at c.args.bytes.now true) refl;
+          read_faults = refl;
+          write_faults = refl;
+          entry = gains_noted c.args.self.now.tells c.args.self.now.tape.calls (WriteAt c.args.file c.args.at c.args.bytes.now true);
+        })
+      ]
+    ]
 
 pub cut-tells : goal.cut-tells
 cut-tells c =
     elim (three c.args.self.now.tape (0) (is_listed c.args.self.now) c.ensures.past c.ensures.listed c.ensures.done) [
-      inl p ↦ rw (p.0, p.1) (record {
-         cut = tt; part_cut = cut_part_none c.args.len (seen_after c.args.self.now.tape.first c.args.self.now.tape.calls c.args.file) c.requires.len;
-         images = follows_none (image_after c.args.self.now.tape.first c.args.self.now.tape.calls c.args.file) (λ h. absurd (false≢true h.0)) (cut_back_none c.args.len); others = λ file lt other. stays_same c.args.self.now.tape.first c.args.self.now.tape.calls c.args.self.now.tape.calls file refl;
-         time = time_stands _ c.args.self.now.tape.first c.args.self.now.tape.calls;
-         no_fault = tt; fault = one_more_rose c.args.self.now.disk_faults; faults_stand = one_more_stands c.args.self.now.disk_faults;
-         stamp = refl; input = refl; sink = refl; read_faults = refl; write_faults = refl;
-         entry = gains_stopped c.args.self.now.tells c.args.self.now.tape.calls (Cut c.args.file c.args.len false) })
-    | inr q ↦ elim q [
-        inl l ↦ rw (l.0, l.1) (record {
-         cut = tt; part_cut = rw (ap (λ s. s.now) (state_cut c.args.self.now.tape.first c.args.self.now.tape.calls c.args.file c.args.len false)) (cut_part_none c.args.len (seen_after c.args.self.now.tape.first c.args.self.now.tape.calls c.args.file) c.requires.len);
-         images = follows_cut _ c.args.self.now.tape.first c.args.self.now.tape.calls c.args.file c.args.len false;
-         others = λ file lt other. stays_quiet c.args.self.now.tape.first c.args.self.now.tape.calls (Cut c.args.file c.args.len false) file (quiet_cut file c.args.file c.args.len false other);
-         time = time_noted _ c.args.self.now.tape.first c.args.self.now.tape.calls (Cut c.args.file c.args.len false);
-         no_fault = tt; fault = one_more_rose c.args.self.now.disk_faults; faults_stand = one_more_stands c.args.self.now.disk_faults;
-         stamp = ap length (sink_stays c.args.self.now.tape.calls (Cut c.args.file c.args.len false) refl);
-         input = input_stays c.args.self.now.tape.input c.args.self.now.tape.calls (Cut c.args.file c.args.len false) refl;
-         sink = sink_stays c.args.self.now.tape.calls (Cut c.args.file c.args.len false) refl; read_faults = refl; write_faults = refl;
-         entry = gains_noted c.args.self.now.tells c.args.self.now.tape.calls (Cut c.args.file c.args.len false) })
-      | inr d ↦ rw (d.0, d.1) (record {
-         cut = ap (λ s. s.now) (state_cut c.args.self.now.tape.first c.args.self.now.tape.calls c.args.file c.args.len true); part_cut = tt;
-         images = follows_cut _ c.args.self.now.tape.first c.args.self.now.tape.calls c.args.file c.args.len true;
-         others = λ file lt other. stays_quiet c.args.self.now.tape.first c.args.self.now.tape.calls (Cut c.args.file c.args.len true) file (quiet_cut file c.args.file c.args.len true other);
-         time = time_noted _ c.args.self.now.tape.first c.args.self.now.tape.calls (Cut c.args.file c.args.len true);
-         no_fault = refl; fault = tt; faults_stand = omega arith;
-         stamp = ap length (sink_stays c.args.self.now.tape.calls (Cut c.args.file c.args.len true) refl);
-         input = input_stays c.args.self.now.tape.input c.args.self.now.tape.calls (Cut c.args.file c.args.len true) refl;
-         sink = sink_stays c.args.self.now.tape.calls (Cut c.args.file c.args.len true) refl; read_faults = refl; write_faults = refl;
-         entry = gains_noted c.args.self.now.tells c.args.self.now.tape.calls (Cut c.args.file c.args.len true) }) ] ]
+      | inl p ↦ rw (p.0, p.1) (record {
+        cut = tt;
+        part_cut = cut_part_none c.args.len (seen_after c.args.self.now.tape.first c.args.self.now.tape.calls c.args.file) c.requires.len;
+        images = follows_none (image_after c.args.self.now.tape.first c.args.self.now.tape.calls c.args.file) (λ h. absurd (false≢true h.0)) (cut_back_none c.args.len);
+        others = λ file lt other. stays_same c.args.self.now.tape.first c.args.self.now.tape.calls c.args.self.now.tape.calls file refl;
+        time = time_stands _ c.args.self.now.tape.first c.args.self.now.tape.calls;
+        no_fault = tt;
+        fault = one_more_rose c.args.self.now.disk_faults;
+        faults_stand = one_more_stands c.args.self.now.disk_faults;
+        stamp = refl;
+        input = refl;
+        sink = refl;
+        read_faults = refl;
+        write_faults = refl;
+        entry = gains_stopped c.args.self.now.tells c.args.self.now.tape.calls (Cut c.args.file c.args.len false);
+      })
+      | inr q ↦ elim q [
+        | inl l ↦ rw (l.0, l.1) (record {
+          cut = tt;
+          part_cut = rw (ap (λ s. s.now) (state_cut c.args.self.now.tape.first c.args.self.now.tape.calls c.args.file c.args.len false)) (cut_part_none c.args.len (seen_after c.args.self.now.tape.first c.args.self.now.tape.calls c.args.file) c.requires.len);
+          images = follows_cut _ c.args.self.now.tape.first c.args.self.now.tape.calls c.args.file c.args.len false;
+          others = λ file lt other. stays_quiet c.args.self.now.tape.first c.args.self.now.tape.calls (Cut c.args.file c.args.len false) file (quiet_cut file c.args.file c.args.len false other);
+          time = time_noted _ c.args.self.now.tape.first c.args.self.now.tape.calls (Cut c.args.file c.args.len false);
+          no_fault = tt;
+          fault = one_more_rose c.args.self.now.disk_faults;
+          faults_stand = one_more_stands c.args.self.now.disk_faults;
+          stamp = ap length (sink_stays c.args.self.now.tape.calls (Cut c.args.file c.args.len false) refl);
+          input = input_stays c.args.self.now.tape.input c.args.self.now.tape.calls (Cut c.args.file c.args.len false) refl;
+          sink = sink_stays c.args.self.now.tape.calls (Cut c.args.file c.args.len false) refl;
+          read_faults = refl;
+          write_faults = refl;
+          entry = gains_noted c.args.self.now.tells c.args.self.now.tape.calls (Cut c.args.file c.args.len false);
+        })
+        | inr d ↦ rw (d.0, d.1) (record {
+          cut = ap (λ s. s.now) (state_cut c.args.self.now.tape.first c.args.self.now.tape.calls c.args.file c.args.len true);
+          part_cut = tt;
+          images = follows_cut _ c.args.self.now.tape.first c.args.self.now.tape.calls c.args.file c.args.len true;
+          others = λ file lt other. stays_quiet c.args.self.now.tape.first c.args.self.now.tape.calls (Cut c.args.file c.args.len true) file (quiet_cut file c.args.file c.args.len true other);
+          time = time_noted _ c.args.self.now.tape.first c.args.self.now.tape.calls (Cut c.args.file c.args.len true);
+          no_fault = refl;
+          fault = tt;
+          faults_stand = omega arith;
+          stamp = ap length (sink_stays c.args.self.now.tape.calls (Cut c.args.file c.args.len true) refl);
+          input = input_stays c.args.self.now.tape.input c.args.self.now.tape.calls (Cut c.args.file c.args.len true) refl;
+          sink = sink_stays c.args.self.now.tape.calls (Cut c.args.file c.args.len true) refl;
+          read_faults = refl;
+          write_faults = refl;
+          entry = gains_noted c.args.self.now.tells c.args.self.now.tape.calls (Cut c.args.file c.args.len true);
+        })
+      ]
+    ]
 
 pub sync-tells : goal.sync-tells
 sync-tells c =
     elim (three c.args.self.now.tape (0) (is_listed c.args.self.now) c.ensures.past c.ensures.listed c.ensures.done) [
-      inl p ↦ rw (p.0, p.1) (record {
-         safe = tt; read = refl; no_new_images = λ bytes image. image; not_safe = stays_same c.args.self.now.tape.first c.args.self.now.tape.calls c.args.self.now.tape.calls c.args.file refl; others = λ file lt other. stays_same c.args.self.now.tape.first c.args.self.now.tape.calls c.args.self.now.tape.calls file refl;
-         time = time_stands _ c.args.self.now.tape.first c.args.self.now.tape.calls;
-         no_fault = tt; fault = one_more_rose c.args.self.now.disk_faults; faults_stand = one_more_stands c.args.self.now.disk_faults;
-         stamp = refl; input = refl; sink = refl; read_faults = refl; write_faults = refl;
-         entry = gains_stopped c.args.self.now.tells c.args.self.now.tape.calls (Sync c.args.file false) })
-    | inr q ↦ elim q [
-        inl l ↦ rw (l.0, l.1) (record {
-         safe = tt; read = (stays_quiet c.args.self.now.tape.first c.args.self.now.tape.calls (Sync c.args.file false) c.args.file (quiet_failed_sync c.args.file c.args.file)).read;
-         no_new_images = (stays_quiet c.args.self.now.tape.first c.args.self.now.tape.calls (Sync c.args.file false) c.args.file (quiet_failed_sync c.args.file c.args.file)).only;
-         not_safe = stays_quiet c.args.self.now.tape.first c.args.self.now.tape.calls (Sync c.args.file false) c.args.file (quiet_failed_sync c.args.file c.args.file);
-         others = λ file lt other. stays_quiet c.args.self.now.tape.first c.args.self.now.tape.calls (Sync c.args.file false) file (quiet_sync file c.args.file false other);
-         time = time_noted _ c.args.self.now.tape.first c.args.self.now.tape.calls (Sync c.args.file false);
-         no_fault = tt; fault = one_more_rose c.args.self.now.disk_faults; faults_stand = one_more_stands c.args.self.now.disk_faults;
-         stamp = ap length (sink_stays c.args.self.now.tape.calls (Sync c.args.file false) refl);
-         input = input_stays c.args.self.now.tape.input c.args.self.now.tape.calls (Sync c.args.file false) refl;
-         sink = sink_stays c.args.self.now.tape.calls (Sync c.args.file false) refl; read_faults = refl; write_faults = refl;
-         entry = gains_noted c.args.self.now.tells c.args.self.now.tape.calls (Sync c.args.file false) })
-      | inr d ↦ rw (d.0, d.1) (record {
-         safe = safe_sync c.args.self.now.tape.first c.args.self.now.tape.calls c.args.file; read = ap (λ s. s.now) (state_synced c.args.self.now.tape.first c.args.self.now.tape.calls c.args.file);
-         no_new_images = sync_only c.args.self.now.tape.first c.args.self.now.tape.calls c.args.file; not_safe = tt;
-         others = λ file lt other. stays_quiet c.args.self.now.tape.first c.args.self.now.tape.calls (Sync c.args.file true) file (quiet_sync file c.args.file true other);
-         time = time_noted _ c.args.self.now.tape.first c.args.self.now.tape.calls (Sync c.args.file true);
-         no_fault = refl; fault = tt; faults_stand = omega arith;
-         stamp = ap length (sink_stays c.args.self.now.tape.calls (Sync c.args.file true) refl);
-         input = input_stays c.args.self.now.tape.input c.args.self.now.tape.calls (Sync c.args.file true) refl;
-         sink = sink_stays c.args.self.now.tape.calls (Sync c.args.file true) refl; read_faults = refl; write_faults = refl;
-         entry = gains_noted c.args.self.now.tells c.args.self.now.tape.calls (Sync c.args.file true) }) ] ]
+      | inl p ↦ rw (p.0, p.1) (record {
+        safe = tt;
+        read = refl;
+        no_new_images = λ bytes image. image;
+        not_safe = stays_same c.args.self.now.tape.first c.args.self.now.tape.calls c.args.self.now.tape.calls c.args.file refl;
+        others = λ file lt other. stays_same c.args.self.now.tape.first c.args.self.now.tape.calls c.args.self.now.tape.calls file refl;
+        time = time_stands _ c.args.self.now.tape.first c.args.self.now.tape.calls;
+        no_fault = tt;
+        fault = one_more_rose c.args.self.now.disk_faults;
+        faults_stand = one_more_stands c.args.self.now.disk_faults;
+        stamp = refl;
+        input = refl;
+        sink = refl;
+        read_faults = refl;
+        write_faults = refl;
+        entry = gains_stopped c.args.self.now.tells c.args.self.now.tape.calls (Sync c.args.file false);
+      })
+      | inr q ↦ elim q [
+        | inl l ↦ rw (l.0, l.1) (record {
+          safe = tt;
+          read = (stays_quiet c.args.self.now.tape.first c.args.self.now.tape.calls (Sync c.args.file false) c.args.file (quiet_failed_sync c.args.file c.args.file)).read;
+          no_new_images = (stays_quiet c.args.self.now.tape.first c.args.self.now.tape.calls (Sync c.args.file false) c.args.file (quiet_failed_sync c.args.file c.args.file)).only;
+          not_safe = stays_quiet c.args.self.now.tape.first c.args.self.now.tape.calls (Sync c.args.file false) c.args.file (quiet_failed_sync c.args.file c.args.file);
+          others = λ file lt other. stays_quiet c.args.self.now.tape.first c.args.self.now.tape.calls (Sync c.args.file false) file (quiet_sync file c.args.file false other);
+          time = time_noted _ c.args.self.now.tape.first c.args.self.now.tape.calls (Sync c.args.file false);
+          no_fault = tt;
+          fault = one_more_rose c.args.self.now.disk_faults;
+          faults_stand = one_more_stands c.args.self.now.disk_faults;
+          stamp = ap length (sink_stays c.args.self.now.tape.calls (Sync c.args.file false) refl);
+          input = input_stays c.args.self.now.tape.input c.args.self.now.tape.calls (Sync c.args.file false) refl;
+          sink = sink_stays c.args.self.now.tape.calls (Sync c.args.file false) refl;
+          read_faults = refl;
+          write_faults = refl;
+          entry = gains_noted c.args.self.now.tells c.args.self.now.tape.calls (Sync c.args.file false);
+        })
+        | inr d ↦ rw (d.0, d.1) (record {
+          safe = safe_sync c.args.self.now.tape.first c.args.self.now.tape.calls c.args.file;
+          read = ap (λ s. s.now) (state_synced c.args.self.now.tape.first c.args.self.now.tape.calls c.args.file);
+          no_new_images = sync_only c.args.self.now.tape.first c.args.self.now.tape.calls c.args.file;
+          not_safe = tt;
+          others = λ file lt other. stays_quiet c.args.self.now.tape.first c.args.self.now.tape.calls (Sync c.args.file true) file (quiet_sync file c.args.file true other);
+          time = time_noted _ c.args.self.now.tape.first c.args.self.now.tape.calls (Sync c.args.file true);
+          no_fault = refl;
+          fault = tt;
+          faults_stand = omega arith;
+          stamp = ap length (sink_stays c.args.self.now.tape.calls (Sync c.args.file true) refl);
+          input = input_stays c.args.self.now.tape.input c.args.self.now.tape.calls (Sync c.args.file true) refl;
+          sink = sink_stays c.args.self.now.tape.calls (Sync c.args.file true) refl;
+          read_faults = refl;
+          write_faults = refl;
+          entry = gains_noted c.args.self.now.tells c.args.self.now.tape.calls (Sync c.args.file true);
+        })
+      ]
+    ]

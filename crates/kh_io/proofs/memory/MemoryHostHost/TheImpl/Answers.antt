@@ -10,39 +10,109 @@ use Rattle.kh_io.proofs.memory.MemoryHostHost.TheImpl.Goals as goal
 pub take-tells : goal.take-tells
 take-tells c =
     elim (three c.args.self.now.tape (take_moves c.args.self.now (length c.args.into.now)) (is_listed c.args.self.now) c.ensures.past c.ensures.listed c.ensures.done) [
-      inl p ↦ rw (p.0, p.1) (record {
-         within = tt; taken = tt; end = tt; no_fault = tt; none_taken = refl; fault = one_more_rose c.args.self.now.read_faults; faults_stand = one_more_stands c.args.self.now.read_faults;
-         sink = refl; stamp = refl; write_faults = refl; disk_faults = refl; files = λ file lt. stays_same c.args.self.now.tape.first c.args.self.now.tape.calls c.args.self.now.tape.calls file refl;
-         time = time_stands _ c.args.self.now.tape.first c.args.self.now.tape.calls; entry = gains_stopped c.args.self.now.tells c.args.self.now.tape.calls (Take (length c.new.into.now) None) })
-    | inr q ↦ elim q [
-        inl l ↦ rw (l.0, l.1) (record {
-         within = tt; taken = tt; end = tt; no_fault = tt; none_taken = input_stays c.args.self.now.tape.input c.args.self.now.tape.calls (Take (length c.new.into.now) None) refl;
-         fault = one_more_rose c.args.self.now.read_faults; faults_stand = one_more_stands c.args.self.now.read_faults;
-         sink = sink_stays c.args.self.now.tape.calls (Take (length c.new.into.now) None) refl; stamp = ap length (sink_stays c.args.self.now.tape.calls (Take (length c.new.into.now) None) refl); write_faults = refl; disk_faults = refl; files = λ file lt. stays_quiet c.args.self.now.tape.first c.args.self.now.tape.calls (Take (length c.new.into.now) None) file (quiet_take file (length c.new.into.now) None);
-         time = time_noted _ c.args.self.now.tape.first c.args.self.now.tape.calls (Take (length c.new.into.now) None); entry = gains_noted c.args.self.now.tells c.args.self.now.tape.calls (Take (length c.new.into.now) None) })
-      | inr d ↦ rw (d.0, d.2) (record {
-         within = omega arith;
-         taken = taken_off c.args.self.now.tape.input c.args.self.now.tape.calls (length c.new.into.now) (take_len c.args.self.now.tape (length c.new.into.now)) c.new.into.now (omega arith) d.1;
-         end = λ none some. none_left c.args.self.now.tape.input c.args.self.now.tape.calls (length c.new.into.now) none some;
-         no_fault = refl; none_taken = tt; fault = tt; faults_stand = omega arith;
-         sink = sink_stays c.args.self.now.tape.calls (Take (length c.new.into.now) (Some (take (take_len c.args.self.now.tape (length c.new.into.now)) c.new.into.now))) refl; stamp = ap length (sink_stays c.args.self.now.tape.calls (Take (length c.new.into.now) (Some (take (take_len c.args.self.now.tape (length c.new.into.now)) c.new.into.now))) refl); write_faults = refl; disk_faults = refl; files = λ file lt. stays_quiet c.args.self.now.tape.first c.args.self.now.tape.calls (Take (length c.new.into.now) (Some (take (take_len c.args.self.now.tape (length c.new.into.now)) c.new.into.now))) file (quiet_take file (length c.new.into.now) (Some (take (take_len c.args.self.now.tape (length c.new.into.now)) c.new.into.now)));
-         time = time_noted _ c.args.self.now.tape.first c.args.self.now.tape.calls (Take (length c.new.into.now) (Some (take (take_len c.args.self.now.tape (length c.new.into.now)) c.new.into.now))); entry = gains_noted c.args.self.now.tells c.args.self.now.tape.calls (Take (length c.new.into.now) (Some (take (take_len c.args.self.now.tape (length c.new.into.now)) c.new.into.now))) }) ] ]
+      | inl p ↦ rw (p.0, p.1) (record {
+        within = tt;
+        taken = tt;
+        end = tt;
+        no_fault = tt;
+        none_taken = refl;
+        fault = one_more_rose c.args.self.now.read_faults;
+        faults_stand = one_more_stands c.args.self.now.read_faults;
+        sink = refl;
+        stamp = refl;
+        write_faults = refl;
+        disk_faults = refl;
+        files = λ file lt. stays_same c.args.self.now.tape.first c.args.self.now.tape.calls c.args.self.now.tape.calls file refl;
+        time = time_stands _ c.args.self.now.tape.first c.args.self.now.tape.calls;
+        entry = gains_stopped c.args.self.now.tells c.args.self.now.tape.calls (Take (length c.new.into.now) None);
+      })
+      | inr q ↦ elim q [
+        | inl l ↦ rw (l.0, l.1) (record {
+          within = tt;
+          taken = tt;
+          end = tt;
+          no_fault = tt;
+          none_taken = input_stays c.args.self.now.tape.input c.args.self.now.tape.calls (Take (length c.new.into.now) None) refl;
+          fault = one_more_rose c.args.self.now.read_faults;
+          faults_stand = one_more_stands c.args.self.now.read_faults;
+          sink = sink_stays c.args.self.now.tape.calls (Take (length c.new.into.now) None) refl;
+          stamp = ap length (sink_stays c.args.self.now.tape.calls (Take (length c.new.into.now) None) refl);
+          write_faults = refl;
+          disk_faults = refl;
+          files = λ file lt. stays_quiet c.args.self.now.tape.first c.args.self.now.tape.calls (Take (length c.new.into.now) None) file (quiet_take file (length c.new.into.now) None);
+          time = time_noted _ c.args.self.now.tape.first c.args.self.now.tape.calls (Take (length c.new.into.now) None);
+          entry = gains_noted c.args.self.now.tells c.args.self.now.tape.calls (Take (length c.new.into.now) None);
+        })
+        | inr d ↦ rw (d.0, d.2) (record {
+          within = omega arith;
+          taken = taken_off c.args.self.now.tape.input c.args.self.now.tape.calls (length c.new.into.now) (take_len c.args.self.now.tape (length c.new.into.now)) c.new.into.now (omega arith) d.1;
+          end = λ none some. none_left c.args.self.now.tape.input c.args.self.now.tape.calls (length c.new.into.now) none some;
+          no_fault = refl;
+          none_taken = tt;
+          fault = tt;
+          faults_stand = omega arith;
+          sink = sink_stays c.args.self.now.tape.calls (Take (length c.new.into.now) (Some (take (take_len c.args.self.now.tape (length c.new.into.now)) c.new.into.now))) refl;
+          stamp = ap length (sink_stays c.args.self.now.tape.calls (Take (length c.new.into.now) (Some (take (take_len c.args.self.now.tape (length c.new.into.now)) c.new.into.now))) refl);
+          write_faults = refl;
+          disk_faults = refl;
+          files = λ file lt. stays_quiet c.args.self.now.tape.first c.args.self.now.tape.calls (Take (length c.new.into.now) (Some (take (take_len c.args.self.now.tape (length c.new.into.now)) c.new.into.now))) file (quiet_take file (length c.new.into.now) (Some (take (take_len c.args.self.now.tape (length c.new.into.now)) c.new.into.now)));
+          time = time_noted _ c.args.self.now.tape.first c.args.self.now.tape.calls (Take (length c.new.into.now) (Some (take (take_len c.args.self.now.tape (length c.new.into.now)) c.new.into.now)));
+          entry = gains_noted c.args.self.now.tells c.args.self.now.tape.calls (Take (length c.new.into.now) (Some (take (take_len c.args.self.now.tape (length c.new.into.now)) c.new.into.now)));
+        })
+      ]
+    ]
 
 pub give-tells : goal.give-tells
 give-tells c =
     elim (three c.args.self.now.tape (length c.args.bytes.now) (is_listed c.args.self.now) c.ensures.past c.ensures.listed c.ensures.done) [
-      inl p ↦ rw (p.0, p.1) (record {
-         within = tt; some = tt; added = tt; no_fault = tt; front_added = nothing_added (given_in c.args.self.now.tape.calls) c.args.bytes.now;
-         fault = one_more_rose c.args.self.now.write_faults; faults_stand = one_more_stands c.args.self.now.write_faults;
-         input = refl; stamp = omega arith; read_faults = refl; disk_faults = refl; files = λ file lt. stays_same c.args.self.now.tape.first c.args.self.now.tape.calls c.args.self.now.tape.calls file refl;
-         time = time_stands _ c.args.self.now.tape.first c.args.self.now.tape.calls; entry = gains_stopped c.args.self.now.tells c.args.self.now.tape.calls (Give c.args.bytes.now None) })
-    | inr q ↦ elim q [
-        inl l ↦ rw (l.0, l.1) (record {
-         within = tt; some = tt; added = tt; no_fault = tt; front_added = rw (sink_stays c.args.self.now.tape.calls (Give c.args.bytes.now None) refl) (nothing_added (given_in c.args.self.now.tape.calls) c.args.bytes.now);
-         fault = one_more_rose c.args.self.now.write_faults; faults_stand = one_more_stands c.args.self.now.write_faults;
-         input = input_stays c.args.self.now.tape.input c.args.self.now.tape.calls (Give c.args.bytes.now None) refl; stamp = stamp_grows c.args.self.now.tape.calls (Give c.args.bytes.now None); read_faults = refl; disk_faults = refl; files = λ file lt. stays_quiet c.args.self.now.tape.first c.args.self.now.tape.calls (Give c.args.bytes.now None) file (quiet_give file c.args.bytes.now None);
-         time = time_noted _ c.args.self.now.tape.first c.args.self.now.tape.calls (Give c.args.bytes.now None); entry = gains_noted c.args.self.now.tells c.args.self.now.tape.calls (Give c.args.bytes.now None) })
-      | inr d ↦ rw (d.0, d.1) (record {
-         within = omega arith; some = λ lt. lt; added = given_push c.args.self.now.tape.calls (Give c.args.bytes.now (Some (length c.args.bytes.now))); no_fault = refl; front_added = tt; fault = tt; faults_stand = omega arith;
-         input = input_stays c.args.self.now.tape.input c.args.self.now.tape.calls (Give c.args.bytes.now (Some (length c.args.bytes.now))) refl; stamp = stamp_grows c.args.self.now.tape.calls (Give c.args.bytes.now (Some (length c.args.bytes.now))); read_faults = refl; disk_faults = refl; files = λ file lt. stays_quiet c.args.self.now.tape.first c.args.self.now.tape.calls (Give c.args.bytes.now (Some (length c.args.bytes.now))) file (quiet_give file c.args.bytes.now (Some (length c.args.bytes.now)));
-         time = time_noted _ c.args.self.now.tape.first c.args.self.now.tape.calls (Give c.args.bytes.now (Some (length c.args.bytes.now))); entry = gains_noted c.args.self.now.tells c.args.self.now.tape.calls (Give c.args.bytes.now (Some (length c.args.bytes.now))) }) ] ]
+      | inl p ↦ rw (p.0, p.1) (record {
+        within = tt;
+        some = tt;
+        added = tt;
+        no_fault = tt;
+        front_added = nothing_added (given_in c.args.self.now.tape.calls) c.args.bytes.now;
+        fault = one_more_rose c.args.self.now.write_faults;
+        faults_stand = one_more_stands c.args.self.now.write_faults;
+        input = refl;
+        stamp = omega arith;
+        read_faults = refl;
+        disk_faults = refl;
+        files = λ file lt. stays_same c.args.self.now.tape.first c.args.self.now.tape.calls c.args.self.now.tape.calls file refl;
+        time = time_stands _ c.args.self.now.tape.first c.args.self.now.tape.calls;
+        entry = gains_stopped c.args.self.now.tells c.args.self.now.tape.calls (Give c.args.bytes.now None);
+      })
+      | inr q ↦ elim q [
+        | inl l ↦ rw (l.0, l.1) (record {
+          within = tt;
+          some = tt;
+          added = tt;
+          no_fault = tt;
+          front_added = rw (sink_stays c.args.self.now.tape.calls (Give c.args.bytes.now None) refl) (nothing_added (given_in c.args.self.now.tape.calls) c.args.bytes.now);
+          fault = one_more_rose c.args.self.now.write_faults;
+          faults_stand = one_more_stands c.args.self.now.write_faults;
+          input = input_stays c.args.self.now.tape.input c.args.self.now.tape.calls (Give c.args.bytes.now None) refl;
+          stamp = stamp_grows c.args.self.now.tape.calls (Give c.args.bytes.now None);
+          read_faults = refl;
+          disk_faults = refl;
+          files = λ file lt. stays_quiet c.args.self.now.tape.first c.args.self.now.tape.calls (Give c.args.bytes.now None) file (quiet_give file c.args.bytes.now None);
+          time = time_noted _ c.args.self.now.tape.first c.args.self.now.tape.calls (Give c.args.bytes.now None);
+          entry = gains_noted c.args.self.now.tells c.args.self.now.tape.calls (Give c.args.bytes.now None);
+        })
+        | inr d ↦ rw (d.0, d.1) (record {
+          within = omega arith;
+          some = λ lt. lt;
+          added = given_push c.args.self.now.tape.calls (Give c.args.bytes.now (Some (length c.args.bytes.now)));
+          no_fault = refl;
+          front_added = tt;
+          fault = tt;
+          faults_stand = omega arith;
+          input = input_stays c.args.self.now.tape.input c.args.self.now.tape.calls (Give c.args.bytes.now (Some (length c.args.bytes.now))) refl;
+          stamp = stamp_grows c.args.self.now.tape.calls (Give c.args.bytes.now (Some (length c.args.bytes.now)));
+          read_faults = refl;
+          disk_faults = refl;
+          files = λ file lt. stays_quiet c.args.self.now.tape.first c.args.self.now.tape.calls (Give c.args.bytes.now (Some (length c.args.bytes.now))) file (quiet_give file c.args.bytes.now (Some (length c.args.bytes.now)));
+          time = time_noted _ c.args.self.now.tape.first c.args.self.now.tape.calls (Give c.args.bytes.now (Some (length c.args.bytes.now)));
+          entry = gains_noted c.args.self.now.tells c.args.self.now.tape.calls (Give c.args.bytes.now (Some (length c.args.bytes.now)));
+        })
+      ]
+    ]

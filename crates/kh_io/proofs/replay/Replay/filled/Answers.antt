@@ -11,4 +11,4 @@ returns c = λ s shows.
     let whole : take c.self.inside.bytes.len (bytes ++ drop (length bytes) old) ≡ bytes = grind (arith, common_steps) in
     let each = rw (c.deref.ensures.value, c.deref_mut.ensures.value) at c.overwrite.ensures in
     rw (c.in-Some.is, c.new-2.ensures, whole)
-      (overwritten s _ c.self.inside.loose.items c.in-Some.byte bytes (rw (← c.self.view_is) at shows) refl len each)
+    (overwritten s _ c.self.inside.loose.items c.in-Some.byte bytes (rw (← c.self.view_is) at shows) refl len each)
