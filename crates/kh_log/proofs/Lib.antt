@@ -1,4 +1,6 @@
 pub mod Records
 pub mod Append
 pub mod Writes
-pub mod Gates
+pub mod Opening
+pub mod Headers
+pub mod Walk

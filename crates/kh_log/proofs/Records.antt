@@ -25,7 +25,7 @@ Front (r ∷ rs) bytes = (h more : List ℕ) × (bytes ≡ open_gate ∷ (h ++ (
 closed_step : (n at gate : ℕ) (rest : List ℕ) → gate ≢ open_gate → content_from (suc n) at (gate ∷ rest) ≡ no_content
 closed_step n at gate rest shut = grind (arith, nat_tests)
 
-lacking_step : (n at : ℕ) (rest : List ℕ) → length rest < 5 + length_of rest
+pub lacking_step : (n at : ℕ) (rest : List ℕ) → length rest < 5 + length_of rest
     → content_from (suc n) at (open_gate ∷ rest) ≡ record { records = []; lacking = Some (at + 1) }
 lacking_step n at rest short = grind (arith, nat_tests)
 
@@ -114,11 +114,11 @@ pub record Behind (bytes : List ℕ) (rs : List (List ℕ)) : Type 0 where
   pub records : Front rs front
   pub some : 1 ≤ length rest
 
-nothing_behind : (bytes : List ℕ) → 1 ≤ length bytes → Behind bytes []
+pub nothing_behind : (bytes : List ℕ) → 1 ≤ length bytes → Behind bytes []
 unfolding Front
 nothing_behind bytes some = record { front = []; rest = bytes; split = refl; records = refl; some = some }
 
-more_behind : (body : List ℕ) (rs : List (List ℕ)) → 5 + length_of body ≤ length body → Behind (drop (4 + length_of body) body) rs
+pub more_behind : (body : List ℕ) (rs : List (List ℕ)) → 5 + length_of body ≤ length body → Behind (drop (4 + length_of body) body) rs
     → Behind (open_gate ∷ body) (take (length_of body) (drop 4 body) ∷ rs)
 unfolding Front
 more_behind body rs enough b =
@@ -155,7 +155,7 @@ behind_content (suc n) at (gate ∷ rest) some = elim (cases_eq gate open_gate) 
   ]
 ]
 
-content_of-short : (bytes : List ℕ) → length bytes < 2 → content_of bytes ≡ no_content
+pub content_of-short : (bytes : List ℕ) → length bytes < 2 → content_of bytes ≡ no_content
 unfolding content_of
 content_of-short bytes short = grind (arith, nat_tests)
 

@@ -1,7 +1,7 @@
 -- A log that is open: where it stands in its file, and what an append leaves.
 use Rattle.std.specs.Prelude.{◌≡◌, ◌≢◌, ◌⊎◌, ℕ, ◌+◌, ◌<◌, ◌≤◌, List, ◌∷◌, ◌++◌, length, take, Option, Some, None, IfSome}
 use Rattle.kh_io.specs.declared.files.Files.{Files}
-use Rattle.kh_io.specs.Disk.{file_of, Torn}
+use Rattle.kh_io.specs.Disk.{file_of, Torn, AreImages}
 use Rattle.kh_log.specs.Records.{open_gate, log_of, Content, content_of, records_of, lacking_in, span, IsClosedAt}
 
 -- where a log stands in its file
@@ -31,6 +31,15 @@ moved log rs = record {
   next = log.last + span rs;
   last = log.last + span rs;
 }
+
+-- the place after this record was read
+abbrev pub passed : Place → List ℕ → Place
+passed log r = record {
+  file = log.file;
+  records = log.records;
+  read = log.read + 1;
+  next = log.next + 5 + length r;
+  last = log.last }
 
 -- the log of a file that holds these records and no more, all of which count as read
 abbrev pub begun_at : ℕ → List (List ℕ) → Place
@@ -74,3 +83,8 @@ pub record Writing (file : ℕ) (image : ℕ → List ℕ → Type 0) (given at 
 pub record IsGroup (rs : List (List ℕ)) (bytes : List ℕ) : Type 0 where
   pub are : rs ≡ records_of (open_gate ∷ bytes)
   pub log : log_of rs ≡ open_gate ∷ bytes
+
+-- what a crash while a file is read may leave: what it might have left before, with the stamp as it was
+pub record Reading (image : ℕ → List ℕ → Type 0) (given : ℕ) (files : Files) (s : ℕ) : Type 0 where
+  pub images : AreImages image files
+  pub stamp : s ≡ given

@@ -1,5 +1,5 @@
 -- A log as bytes: its open records in order, and where an open record lacks bytes.
-use Rattle.std.specs.Prelude.{◌≡◌, ◌≢◌, ◌⊎◌, ℕ, zero, suc, ◌+◌, ◌<◌, List, [], ◌∷◌, ◌++◌, length, take, drop, Option, Some, None, if◌then◌else◌, ◌==◌, nat_lt}
+use Rattle.std.specs.Prelude.{◌≡◌, ◌≢◌, ◌⊎◌, ℕ, zero, suc, ◌+◌, ◌<◌, ◌≤◌, List, [], ◌∷◌, ◌++◌, length, take, drop, Option, Some, None, if◌then◌else◌, ◌==◌, nat_lt}
 use Rattle.byteorder.specs.Endian.{big_bytes, big_number}
 
 -- the byte of an open gate; any other is a closed one
@@ -63,3 +63,20 @@ pub record IsClosedAt (at : ℕ) (bytes : List ℕ) : Type 0 where
   pub behind : List ℕ
   pub there : drop at bytes ≡ gate ∷ behind
   pub closed : gate ≢ open_gate
+
+-- at this place an open gate stands, and behind it a record that lacks bytes
+pub record LacksAt (at : ℕ) (bytes : List ℕ) : Type 0 where
+  pub behind : List ℕ
+  pub there : drop at bytes ≡ open_gate ∷ behind
+  pub short : length behind < 5 + length_of behind
+
+-- at this place an open gate stands, and behind it a whole record up to the next gate
+pub record IsOpenAt (at after : ℕ) (bytes : List ℕ) : Type 0 where
+  pub behind : List ℕ
+  pub there : drop at bytes ≡ open_gate ∷ behind
+  pub enough : 5 + length_of behind ≤ length behind
+  pub next : after ≡ at + 5 + length_of behind
+
+-- the bytes of the record behind the gate at this place
+abbrev pub record_at : ℕ → List ℕ → List ℕ
+record_at at bytes = take (length_of (drop (at + 1) bytes)) (drop (at + 5) bytes)

@@ -3,6 +3,7 @@
 
 mod durable;
 mod error;
+mod gates;
 mod log;
 mod record;
 

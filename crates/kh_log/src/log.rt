@@ -1,13 +1,15 @@
 //! The log.
-ghost use Rattle.std.specs.Prelude.{◌≡◌, ◌≤◌, ◌<◌, ◌+◌, ◌^◌, ◌++◌, ℕ, List, [], length, IfSome, IfNone, IfOk, OnOk, OnErr, IsErrOf};
+ghost use Rattle.std.specs.Prelude.{◌≡◌, ◌≤◌, ◌<◌, ◌+◌, ◌^◌, ◌++◌, ℕ, List, [], length, slice_get, Some, IfSome, IfNone, IfOk, OnOk, OnErr, IsErrOf};
 ghost use Rattle.kh_io.specs.Told.{Told, Kept, Rose};
 ghost use Rattle.kh_io.specs.Disk.{FilesStay, OthersStay, IsSafe, LeavesOnly};
 ghost use Rattle.kh_log.specs.Records.{content_of, records_of, lacking_in, log_of, span, IsClosedAt};
-ghost use Rattle.kh_log.specs.Log.{Place, Holds, EndsAt, IsBeforeOrAfter, Appending, ImagesAre, moved, begun_at, whole};
+ghost use Rattle.kh_log.specs.Log.{Place, Holds, EndsAt, IsBeforeOrAfter, Appending, Reading, ImagesAre, moved, passed, begun_at, whole};
 
 use crate::durable::open_behind;
+use crate::gates::{count_records, record_bytes};
 use crate::{LogError, Record};
 use kh_io::Host;
+use std::alloc::Global;
 use std::marker::Model;
 
 /// A log in a file: a gate, and while it is open a record and the next gate.
@@ -21,14 +23,14 @@ pub struct Log {
 }
 
 impl Model for Log {
-    ghost use Rattle.std.specs.Prelude.{◌<◌, ◌≤◌, ◌*◌};
+    ghost use Rattle.std.specs.Prelude.{◌<◌, ◌≤◌, ◌*◌, ◌^◌, ◌-◌};
     ghost use Rattle.kh_log.specs.Log.{Place};
 
     ghost Value = { Place };
 
     ghost view = { λ l. record { file = l.file; records = l.records; read = l.read; next = l.next; last = l.last } };
 
-    ghost invariant = { λ l. (l.file < 4) × (l.read ≤ l.records) × (5 * l.records ≤ l.last) };
+    ghost invariant = { λ l. (l.file < 4) × (l.read ≤ l.records) × (5 * l.records ≤ l.last) × (l.next ≤ l.last) × (l.last < 2 ^ 64 - 1) };
 }
 
 impl Log {
@@ -71,11 +73,73 @@ impl Log {
         }
     }
 
+    /// The log in a file, none of whose records is read. It follows the gates to the last record.
+    pub fn open<H: Host>(host: &mut H, file: u8) -> Result<Log, LogError>
+        requires { file < 4 }
+        ensures file { IfOk result (λ log. log.file ≡ file) }
+        ensures none_read { IfOk result (λ log. log.read ≡ 0) }
+        ensures found { IfOk result (λ log. Told (H.seen host.old file) (H.seen host.new file) (λ was _. Holds log was)) }
+        ensures lacking { (o : ℕ) → IsErrOf result (LogError.NotALog o) → Told (H.seen host.old file) (H.seen host.new file) (λ was _. lacking_in was ≡ Some o) }
+        ensures enough_memory { IsErrOf result LogError.NoMemory → ⊥ }
+        ensures files { FilesStay (H.seen host.old) (H.seen host.new) (H.image host.old) (H.image host.new) }
+        ensures any_moment { LeavesOnly (H.moment host.old) (H.moment host.new) (H.left_since host.old) (H.left_since host.new) (Reading (H.image host.old) (H.stamp host.old)) }
+        ensures fault { IsErrOf result LogError.DiskFault → Rose (H.disk_faults host.old) (H.disk_faults host.new) }
+        ensures no_fault { OnOk result (H.disk_faults host.new ≡ H.disk_faults host.old) }
+        ensures faults_stand { H.disk_faults host.old ≤ H.disk_faults host.new }
+        ensures stamp { H.stamp host.new ≡ H.stamp host.old }
+        ensures input { Kept (H.left host.old) (H.left host.new) }
+        ensures sink { Kept (H.given host.old) (H.given host.new) }
+        ensures read_faults { H.read_faults host.new ≡ H.read_faults host.old }
+        ensures write_faults { H.write_faults host.new ≡ H.write_faults host.old }
+    {
+        let (records, last) = count_records(host, file)?;
+        Ok(Log {
+            file,
+            records,
+            read: 0,
+            next: 0,
+            last,
+        })
+    }
+
     /// How many records the log has, read or not.
     pub fn records(&self) -> u64
         ensures { result ≡ self.now.records }
     {
         self.records
+    }
+
+    /// The bytes of the next record; None once all are read.
+    pub fn read<H: Host>(&mut self, alloc: Global, host: &mut H) -> Result<Option<Vec<u8>>, LogError>
+        requires found { IfSome (H.seen host.old self.old.file) (Holds self.old) }
+        ensures next { IfOk result (λ r. IfSome r (λ bytes. Told (H.seen host.old self.old.file) (H.seen host.new self.old.file)
+            (λ was _. slice_get (records_of was) self.old.read ≡ Some bytes.items))) }
+        ensures some { IfOk result (λ r. IfSome r (λ _. self.old.read < self.old.records)) }
+        ensures passed { IfOk result (λ r. IfSome r (λ bytes. self.new ≡ passed self.old bytes.items)) }
+        ensures none { IfOk result (λ r. IfNone r (self.old.read ≡ self.old.records)) }
+        ensures at_end { IfOk result (λ r. IfNone r (self.new ≡ self.old)) }
+        ensures failed { OnErr result (self.new ≡ self.old) }
+        ensures holds { IfSome (H.seen host.new self.old.file) (Holds self.new) }
+        // What `open` found lacks nothing.
+        ensures lacking { (o : ℕ) → IsErrOf result (LogError.NotALog o) → Told (H.seen host.old self.old.file) (H.seen host.new self.old.file) (λ _ _. ⊥) }
+        ensures files { FilesStay (H.seen host.old) (H.seen host.new) (H.image host.old) (H.image host.new) }
+        ensures any_moment { LeavesOnly (H.moment host.old) (H.moment host.new) (H.left_since host.old) (H.left_since host.new) (Reading (H.image host.old) (H.stamp host.old)) }
+        ensures fault { IsErrOf result LogError.DiskFault → Rose (H.disk_faults host.old) (H.disk_faults host.new) }
+        ensures no_fault { OnOk result (H.disk_faults host.new ≡ H.disk_faults host.old) }
+        ensures faults_stand { H.disk_faults host.old ≤ H.disk_faults host.new }
+        ensures stamp { H.stamp host.new ≡ H.stamp host.old }
+        ensures input { Kept (H.left host.old) (H.left host.new) }
+        ensures sink { Kept (H.given host.old) (H.given host.new) }
+        ensures read_faults { H.read_faults host.new ≡ H.read_faults host.old }
+        ensures write_faults { H.write_faults host.new ≡ H.write_faults host.old }
+    {
+        if self.read == self.records {
+            return Ok(None);
+        }
+        let bytes = record_bytes(alloc, host, self.file, self.next, self.last)?;
+        self.next += 5 + bytes.len() as u64;
+        self.read += 1;
+        Ok(Some(bytes))
     }
 
     /// Adds records behind the last. At `Ok` each crash from then on leaves them; at `DiskFault` the log may no longer be used.

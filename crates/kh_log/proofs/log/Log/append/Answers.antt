@@ -4,7 +4,7 @@ use Rattle.kh_io.specs.Disk.{LeavesOnly}
 use Rattle.kh_io.specs.Told.{Told}
 use Rattle.kh_log.specs.Records.{log_of, span, records_of}
 use Rattle.kh_log.specs.Log.{Place, IsGroup, Holds, EndsAt, Appending, moved}
-use Rattle.kh_log.proofs.Gates.{start_of, told_ends, told_holds, is_group, length_group, span_least, moved_is}
+use Rattle.kh_log.proofs.Opening.{start_of, told_ends, told_holds, is_group, length_group, span_least, moved_is}
 use Rattle.kh_log.proofs.log.Log.append.Goals as goal
 
 pub open_behind-requires-clause-start : goal.open_behind-requires-clause-start
@@ -42,7 +42,10 @@ invariant_of-self g c =
     let least = span_least c.args.r.now in
     let most : 5 * c.self.inside.records ≤ c.self.inside.last = c.self.invariant.2 in
     let len : c.len.result ≡ length c.deref.result.now = c.len.ensures ∙ sym c.deref.ensures.len in
-    (c.self.invariant.0, omega arith, omega (arith, long, count, least, most, len))
+    let all : length (log_of c.args.r.now) ≡ length c.deref.result.now + 1 = omega (arith, ap length group.log) in
+    let last : c.self.inside.last ≡ c.args.self.now.last = ap (λ (p : Place). p.last) c.self.view_is in
+    let room : c.args.self.now.last + length (log_of c.args.r.now) ≤ 2 ^ 62 = c.requires.room in
+    (c.self.invariant.0, omega arith, omega (arith, long, count, least, most, len), omega arith, omega (arith, room, all, last, len))
 
 pub returns-clause-left : goal.returns-clause-left
 returns-clause-left g c =

@@ -1,6 +1,6 @@
 use Rattle.std.proofs.Common.{[]}
 use Rattle.kh_log.specs.Records.{log_of}
-use Rattle.kh_log.proofs.Gates.{begun_holds, nothing_ends, if_none}
+use Rattle.kh_log.proofs.Opening.{begun_holds, nothing_ends, if_none}
 use Rattle.kh_log.proofs.log.Log.begun.Goals as goal
 
 pub returns-in-None-clause-none_holds : goal.returns-in-None-clause-none_holds
