@@ -109,6 +109,7 @@ pub(crate) fn count_records<D: Disk>(disk: &mut D, file: u8) -> Result<(u64, u64
     requires { file < 4 }
     ensures last { IfOk result (λ r. Told (D.seen disk.old file) (D.seen disk.new file)
         (λ was _. (lacking_in was ≡ None) × (r.1 ≡ span (records_of was)) × (r.0 ≡ length (records_of was)))) }
+    ensures closed { IfOk result (λ r. Told (D.seen disk.old file) (D.seen disk.new file) (λ was _. 2 ≤ length was → IsClosedAt r.1 was)) }
     ensures bound { IfOk result (λ r. 5 * r.0 ≤ r.1) }
     ensures fits { IfOk result (λ r. r.1 < 2 ^ 64 - 1) }
     ensures lacks { (o : ℕ) → IsErrOf result (LogError.NotALog o) → Told (D.seen disk.old file) (D.seen disk.new file) (λ was _. lacking_in was ≡ Some o) }

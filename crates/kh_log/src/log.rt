@@ -79,6 +79,7 @@ impl Log {
         ensures file { IfOk result (λ log. log.file ≡ file) }
         ensures none_read { IfOk result (λ log. log.read ≡ 0) }
         ensures found { IfOk result (λ log. Told (H.seen host.old file) (H.seen host.new file) (λ was _. Holds log was)) }
+        ensures closed { IfOk result (λ log. Told (H.seen host.old file) (H.seen host.new file) (λ was _. 2 ≤ length was → IsClosedAt log.last was)) }
         ensures lacking { (o : ℕ) → IsErrOf result (LogError.NotALog o) → Told (H.seen host.old file) (H.seen host.new file) (λ was _. lacking_in was ≡ Some o) }
         ensures enough_memory { IsErrOf result LogError.NoMemory → ⊥ }
         ensures files { FilesStay (H.seen host.old) (H.seen host.new) (H.image host.old) (H.image host.new) }
@@ -107,6 +108,13 @@ impl Log {
         ensures { result ≡ self.now.records }
     {
         self.records
+    }
+
+    /// The place of the last gate.
+    pub fn end(&self) -> u64
+        ensures { result ≡ self.now.last }
+    {
+        self.last
     }
 
     /// The bytes of the next record; None once all are read.
