@@ -17,7 +17,7 @@ pub gate_at : (bytes : List ℕ) (at count : ℕ) (header : List ℕ) → IsRead
 gate_at bytes at count header is five within =
     let there = drop_more bytes at 0 within in
     let same : slice_index header 0 ≡ get_or bytes at 0 =
-        same_first count (get_or bytes at 0) header (drop (at + 1) bytes) (omega (arith, is.count, five, within)) (omega (arith, five)) (is.bytes ∙ ap (take count) there) in
+    same_first count (get_or bytes at 0) header (drop (at + 1) bytes) (omega (arith, is.count, five, within)) (omega (arith, five)) (is.bytes ∙ ap (take count) there) in
     there ∙ ap (λ g. g ∷ drop (at + 1) bytes) (sym same)
 
 length_of-take : (bytes : List ℕ) → 4 ≤ length bytes → length_of (take 4 bytes) ≡ length_of bytes
@@ -31,7 +31,7 @@ length_at bytes at count header is five all =
     let full : take count header ≡ header = take_all count header (omega (arith, five, all)) in
     let exact : count ≡ 1 + 4 = omega (arith, is.count, five, all) in
     let same : drop 1 header ≡ take 4 (drop (at + 1) bytes) =
-        ap (drop 1) (sym full ∙ is.bytes ∙ ap (λ n. take n (drop at bytes)) exact) ∙ drop-take 1 4 (drop at bytes) ∙ ap (take 4) (drop-drop 1 at bytes) in
+    ap (drop 1) (sym full ∙ is.bytes ∙ ap (λ n. take n (drop at bytes)) exact) ∙ drop-take 1 4 (drop at bytes) ∙ ap (take 4) (drop-drop 1 at bytes) in
     ap length_of same ∙ length_of-take (drop (at + 1) bytes) (omega (arith, is.count, five, all, length-drop (at + 1) bytes))
 
 open_there : (bytes : List ℕ) (at count : ℕ) (header : List ℕ) → IsReadAt bytes at count header → length header ≡ 5 → at < length bytes → slice_index header 0 ≡ open_gate
@@ -43,14 +43,16 @@ pub lacks_header : (bytes : List ℕ) (at count : ℕ) (header : List ℕ) → I
 lacks_header bytes at count header is five within gate few = record {
   behind = drop (at + 1) bytes;
   there = open_there bytes at count header is five within gate;
-  short = omega (arith, is.count, five, few, length-drop (at + 1) bytes) }
+  short = omega (arith, is.count, five, few, length-drop (at + 1) bytes);
+}
 
 pub lacks_bytes : (bytes : List ℕ) (at count n : ℕ) (header : List ℕ) → IsReadAt bytes at count header → length header ≡ 5 → at < length bytes → slice_index header 0 ≡ open_gate
     → 5 ≤ count → n ≡ length_of (drop 1 header) → length bytes - at - 1 < 5 + n → LacksAt at bytes
 lacks_bytes bytes at count n header is five within gate all len few = record {
   behind = drop (at + 1) bytes;
   there = open_there bytes at count header is five within gate;
-  short = omega (arith, len, length_at bytes at count header is five all, few, length-drop (at + 1) bytes) }
+  short = omega (arith, len, length_at bytes at count header is five all, few, length-drop (at + 1) bytes);
+}
 
 pub open_header : (bytes : List ℕ) (at count n : ℕ) (header : List ℕ) → IsReadAt bytes at count header → length header ≡ 5 → at < length bytes → slice_index header 0 ≡ open_gate
     → 5 ≤ count → n ≡ length_of (drop 1 header) → 5 + n ≤ length bytes - at - 1 → IsOpenAt at (at + 5 + n) bytes
@@ -58,7 +60,8 @@ open_header bytes at count n header is five within gate all len enough = record 
   behind = drop (at + 1) bytes;
   there = open_there bytes at count header is five within gate;
   enough = omega (arith, len, length_at bytes at count header is five all, enough, length-drop (at + 1) bytes);
-  next = omega (arith, len, length_at bytes at count header is five all) }
+  next = omega (arith, len, length_at bytes at count header is five all);
+}
 
 pub rest_of : (header : List ℕ) → take (length header - 1) (drop 1 header) ≡ drop 1 header
 rest_of header = take_all (length header - 1) (drop 1 header) (omega (arith, length-drop 1 header))

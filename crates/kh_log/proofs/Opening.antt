@@ -2,7 +2,7 @@
 use Rattle.std.proofs.Common.{◌≡◌, ◌≢◌, inl, ℕ, ◌+◌, ◌*◌, ◌<◌, ◌≤◌, List, [], ◌∷◌, ◌++◌, length, take, drop, Option, Some, None, subst, ap, sym, ◌∙◌, refl, arith, length-append, length-take, length-drop}
 use Rattle.std.specs.Prelude.{IfSome, IfNone, OnOk, Result, Ok, Err}
 use Rattle.kh_io.specs.declared.files.Files.{Files}
-use Rattle.kh_io.specs.Disk.{file_of, put, Torn, IsSafe}
+use Rattle.kh_io.specs.Disk.{file_of, put, Torn, IsSafe, Stays}
 use Rattle.kh_io.specs.Told.{Told}
 use Rattle.kh_io.proofs.Telling.{told_before, told_both}
 use Rattle.kh_log.specs.Records.{open_gate, Content, records_of, log_of, span, IsClosedAt}
@@ -184,3 +184,16 @@ begun_is file count len rs counts lens =
 pub if_none : {A P : Type 0} (o : Option A) → P → IfNone o P
 if_none None holds = holds
 if_none (Some a) holds = tt
+
+-- After a sync, of a file of 2 bytes or more, each image has a closed gate at the end of the log that is opened then.
+pub closed_images : {first second third : List ℕ → Type 0} (a b c : Option (List ℕ)) (n last : ℕ) → IsSafe a first → Stays a b first second → Told a b (λ bytes _. n ≡ length bytes) → 2 ≤ n
+    → Stays b c second third → Told b c (λ was _. 2 ≤ length was → IsClosedAt last was) → ImagesAre c third (IsClosedAt last)
+closed_images (Some x) (Some y) (Some z) n last safe stay long two again closed = λ bytes there.
+    let same : Some x ≡ Some bytes = safe bytes (stay.only bytes (again.only bytes there)) in
+    let is : x ≡ bytes = cc in
+    let kept : y ≡ x = stay.read in
+    subst (IsClosedAt last) (kept ∙ is) (closed (omega (arith, long, two, ap length kept)))
+closed_images None (Some y) (Some z) n last safe stay long two again closed = absurd long
+closed_images a None (Some z) n last safe stay long two again closed = absurd closed
+closed_images (Some x) b None n last safe stay long two again closed = tt
+closed_images None b None n last safe stay long two again closed = tt

@@ -37,18 +37,28 @@ stands_next at count after bytes s o =
     let b = more_behind o.behind [] o.enough (nothing_behind (drop (4 + length_of o.behind) o.behind) (omega (arith, o.enough, length-drop (4 + length_of o.behind) o.behind))) in
     let r = take (length_of o.behind) (drop 4 o.behind) in
     let len : length r ≡ length_of o.behind = omega (arith, length-take (length_of o.behind) (drop 4 o.behind), length-drop 4 o.behind, o.enough) in
-    record { rs = s.rs ++ r ∷ []; front = s.front ++ b.front; rest = b.rest;
+    record {
+      rs = s.rs ++ r ∷ [];
+      front = s.front ++ b.front;
+      rest = b.rest;
       split = s.split ∙ ap (λ (l : List ℕ). s.front ++ l) (sym (rest_is at count bytes s) ∙ o.there ∙ b.split) ∙ sym (append_assoc s.front b.front b.rest);
       records = front-append s.rs (r ∷ []) s.front b.front s.records b.records;
       place = omega (arith, s.place, length-append s.front b.front, length-front (r ∷ []) b.front b.records, len, o.next);
       counted = omega (arith, s.counted, length-append s.rs (r ∷ []));
-      some = b.some }
+      some = b.some;
+    }
 
 pub stands_closed : (at count : ℕ) (bytes : List ℕ) → Stands at count bytes → IsClosedAt at bytes → EndsAt at (records_of bytes) bytes × (count ≡ length (records_of bytes))
 stands_closed at count bytes s closed =
-    let e = ends_at at s.rs bytes (record { front = s.front; gate = closed.gate; tail = closed.behind;
+    let e = ends_at at s.rs bytes (record {
+      front = s.front;
+      gate = closed.gate;
+      tail = closed.behind;
       is = s.split ∙ ap (λ (l : List ℕ). s.front ++ l) (sym (rest_is at count bytes s) ∙ closed.there);
-      records = s.records; place = s.place; closed = closed.closed }) in
+      records = s.records;
+      place = s.place;
+      closed = closed.closed;
+    }) in
     let are : s.rs ≡ records_of bytes = sym (ap (λ (c : Content). c.records) e.content) in
     (subst (λ (l : List (List ℕ)). EndsAt at l bytes) are e, s.counted ∙ ap length are)
 
@@ -56,9 +66,9 @@ pub stands_lacks : (at count : ℕ) (bytes : List ℕ) → Stands at count bytes
 stands_lacks at count bytes s long lacks =
     let from = content_of-front s.rs s.front s.rest s.records s.some (subst (λ (l : List ℕ). 2 ≤ length l) s.split long) in
     ap (λ (l : List ℕ). lacking_in l) s.split ∙ ap (λ (c : Content). c.lacking) (from.1
-      ∙ ap (λ (l : List ℕ). with_records s.rs (content_from (suc from.0) (span s.rs) l)) (sym (rest_is at count bytes s) ∙ lacks.there)
-      ∙ ap (with_records s.rs) (lacking_step from.0 (span s.rs) lacks.behind lacks.short)
-      ∙ with_records-is s.rs (record { records = []; lacking = Some (span s.rs + 1) }))
+    ∙ ap (λ (l : List ℕ). with_records s.rs (content_from (suc from.0) (span s.rs) l)) (sym (rest_is at count bytes s) ∙ lacks.there)
+    ∙ ap (with_records s.rs) (lacking_step from.0 (span s.rs) lacks.behind lacks.short)
+    ∙ with_records-is s.rs (record { records = []; lacking = Some (span s.rs + 1) }))
     ∙ ap (λ k. Some (k + 1)) (sym (length-front s.rs s.front s.records) ∙ s.place)
 
 -- a file that is told is at its first gate
@@ -113,7 +123,8 @@ pub stays_both : {a b c : Option (List ℕ)} {i j k : List ℕ → Type 0} → S
 stays_both {a} {b} {c} first second = record {
   read = kept_both a b c first.read second.read;
   only = λ bytes left. first.only bytes (second.only bytes left);
-  all = λ told bytes left. second.all told bytes (first.all (told_too b c second.read told) bytes left) }
+  all = λ told bytes left. second.all told bytes (first.all (told_too b c second.read told) bytes left);
+}
   where
     told_too : (b c : Option (List ℕ)) → Kept b c → IsSome c → IsSome b
     told_too (Some x) c kept told = refl
@@ -152,13 +163,17 @@ first_record h r rest rs four len some =
     let body : drop 4 behind ≡ r ++ rest = drop_at h (r ++ rest) 4 four in
     record {
       bytes_of = r;
-      opened = record { behind = behind; there = refl;
+      opened = record {
+        behind = behind;
+        there = refl;
         enough = omega (arith, is, four, length-append h (r ++ rest), length-append r rest, some);
-        next = omega (arith, is) };
+        next = omega (arith, is);
+      };
       is = ap (λ n. take n (drop 4 behind)) is ∙ ap (take (length r)) body ∙ take_at r rest (length r) refl;
       got = refl;
       more = omega arith;
-      least = omega arith }
+      least = omega arith;
+    }
 
 later_record : (h r rest : List ℕ) (rs : List (List ℕ)) (k at : ℕ) → length h ≡ 4 → Nth rs k at rest → at ≡ span (take k rs)
     → Nth (r ∷ rs) (suc k) (5 + length r + at) (open_gate ∷ (h ++ (r ++ rest)))
@@ -173,41 +188,48 @@ later_record h r rest rs k at four n place =
       bytes_of = n.bytes_of;
       opened = record { behind = n.opened.behind; there = shift at (5 + length r + at) refl ∙ n.opened.there; enough = n.opened.enough; next = omega (arith, n.opened.next) };
       is = ap (λ (l : List ℕ). take (length_of l) (drop (5 + length r + at + 5) all)) (shift (at + 1) (5 + length r + at + 1) (omega arith))
-        ∙ ap (take (length_of (drop (at + 1) rest))) (shift (at + 5) (5 + length r + at + 5) (omega arith)) ∙ n.is;
+          ∙ ap (take (length_of (drop (at + 1) rest))) (shift (at + 5) (5 + length r + at + 5) (omega arith)) ∙ n.is;
       got = n.got;
       more = omega (arith, n.more, step);
-      least = omega (arith, n.least, step) }
+      least = omega (arith, n.least, step);
+    }
 
 pub nth : (rs : List (List ℕ)) (front rest : List ℕ) (k : ℕ) → Front rs front → 1 ≤ length rest → k < length rs → Nth rs k (span (take k rs)) (front ++ rest)
 unfolding Front
 nth [] front rest k is some lt = absurd (omega (arith, lt))
 nth (r ∷ rs) front rest zero (h, more, is, four, len, behind) some lt =
     let same : front ++ rest ≡ open_gate ∷ (h ++ (r ++ (more ++ rest))) =
-        ap (λ (l : List ℕ). l ++ rest) is ∙ ap (λ (l : List ℕ). open_gate ∷ l) (append_assoc h (r ++ more) rest ∙ ap (λ (l : List ℕ). h ++ l) (append_assoc r more rest)) in
+    ap (λ (l : List ℕ). l ++ rest) is ∙ ap (λ (l : List ℕ). open_gate ∷ l) (append_assoc h (r ++ more) rest ∙ ap (λ (l : List ℕ). h ++ l) (append_assoc r more rest)) in
     subst (Nth (r ∷ rs) 0 0) (sym same) (first_record h r (more ++ rest) rs four len (omega (arith, some, length-append more rest)))
 nth (r ∷ rs) front rest (suc k) (h, more, is, four, len, behind) some lt =
     let same : front ++ rest ≡ open_gate ∷ (h ++ (r ++ (more ++ rest))) =
-        ap (λ (l : List ℕ). l ++ rest) is ∙ ap (λ (l : List ℕ). open_gate ∷ l) (append_assoc h (r ++ more) rest ∙ ap (λ (l : List ℕ). h ++ l) (append_assoc r more rest)) in
+    ap (λ (l : List ℕ). l ++ rest) is ∙ ap (λ (l : List ℕ). open_gate ∷ l) (append_assoc h (r ++ more) rest ∙ ap (λ (l : List ℕ). h ++ l) (append_assoc r more rest)) in
     subst (Nth (r ∷ rs) (suc k) (5 + length r + span (take k rs))) (sym same)
-      (later_record h r (more ++ rest) rs k (span (take k rs)) four (nth rs more rest k behind some (omega (arith, lt))) refl)
+    (later_record h r (more ++ rest) rs k (span (take k rs)) four (nth rs more rest k behind some (omega (arith, lt))) refl)
 
 -- the next record of a log that has one
 pub next_record : (log : Place) (bytes : List ℕ) → Holds log bytes → log.read < log.records → Nth (records_of bytes) log.read log.next bytes
 next_record log bytes holds lt =
     let some : 1 ≤ length bytes = elim (cases_lt (length bytes) 1) [
-        inl none ↦ absurd (omega (arith, lt, holds.records, ap (λ (c : Content). length c.records) (content_of-short bytes (omega (arith, none)))))
-      | inr some ↦ some ] in
+      | inl none ↦ absurd (omega (arith, lt, holds.records, ap (λ (c : Content). length c.records) (content_of-short bytes (omega (arith, none)))))
+      | inr some ↦ some
+    ] in
     let b = behind_records bytes some in
     subst (λ n. Nth (records_of bytes) log.read n bytes) (sym holds.next)
-      (subst (Nth (records_of bytes) log.read (span (take log.read (records_of bytes)))) (sym b.split)
-        (nth (records_of bytes) b.front b.rest log.read b.records b.some (omega (arith, lt, holds.records))))
+    (subst (Nth (records_of bytes) log.read (span (take log.read (records_of bytes)))) (sym b.split)
+    (nth (records_of bytes) b.front b.rest log.read b.records b.some (omega (arith, lt, holds.records))))
 
 -- and the log once it was read
 pub holds_passed : (log : Place) (bytes r : List ℕ) → Holds log bytes → log.read < log.records → r ≡ record_at log.next bytes → Holds (passed log r) bytes
 holds_passed log bytes r holds lt is =
     let n = next_record log bytes holds lt in
-    record { none_lacks = holds.none_lacks; records = holds.records; last = holds.last; read = omega (arith, lt);
-      next = omega (arith, holds.next, n.more, ap length (is ∙ n.is)) }
+    record {
+      none_lacks = holds.none_lacks;
+      records = holds.records;
+      last = holds.last;
+      read = omega (arith, lt);
+      next = omega (arith, holds.next, n.more, ap length (is ∙ n.is));
+    }
 
 next_ends : (log : Place) (was : List ℕ) (holds : Holds log was) (lt : log.read < log.records) → log.next + 5 + length (next_record log was holds lt).bytes_of ≤ log.last
 next_ends log was holds lt =

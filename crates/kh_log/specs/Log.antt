@@ -39,7 +39,8 @@ passed log r = record {
   records = log.records;
   read = log.read + 1;
   next = log.next + 5 + length r;
-  last = log.last }
+  last = log.last;
+}
 
 -- the log of a file that holds these records and no more, all of which count as read
 abbrev pub begun_at : ℕ → List (List ℕ) → Place

@@ -14,7 +14,12 @@ use std::alloc::Global;
 const HEADER: usize = 5;
 
 /// The place of the gate behind the record at this gate; None where the gate is closed. The file has `len` bytes.
-pub(crate) fn gate_behind<D: Disk>(disk: &mut D, file: u8, at: u64, len: u64) -> Result<Option<u64>, LogError>
+pub(crate) fn gate_behind<D: Disk>(
+    disk: &mut D,
+    file: u8,
+    at: u64,
+    len: u64,
+) -> Result<Option<u64>, LogError>
     requires file { file < 4 }
     requires within { at < len }
     requires len { IfSome (D.seen disk.old file) (λ bytes. length bytes ≡ len) }
@@ -133,7 +138,13 @@ pub(crate) fn count_records<D: Disk>(disk: &mut D, file: u8) -> Result<(u64, u64
 }
 
 /// The bytes of the record behind the open gate at this place, which ends at `last` at the latest.
-pub(crate) fn record_bytes<D: Disk>(alloc: Global, disk: &mut D, file: u8, at: u64, last: u64) -> Result<Vec<u8>, LogError>
+pub(crate) fn record_bytes<D: Disk>(
+    alloc: Global,
+    disk: &mut D,
+    file: u8,
+    at: u64,
+    last: u64,
+) -> Result<Vec<u8>, LogError>
     requires file { file < 4 }
     requires within { at ≤ last }
     requires fits { last < 2 ^ 64 - 1 }
@@ -191,7 +202,13 @@ fn length_behind<D: Disk>(disk: &mut D, file: u8, at: u64, last: u64) -> Result<
 }
 
 // So many bytes of the record behind the gate at this place.
-fn bytes_at<D: Disk>(alloc: Global, disk: &mut D, file: u8, at: u64, count: usize) -> Result<Vec<u8>, LogError>
+fn bytes_at<D: Disk>(
+    alloc: Global,
+    disk: &mut D,
+    file: u8,
+    at: u64,
+    count: usize,
+) -> Result<Vec<u8>, LogError>
     requires file { file < 4 }
     requires fits { at + 5 + count < 2 ^ 64 }
     ensures bytes { IfOk result (λ bytes. Told (D.seen disk.old file) (D.seen disk.new file) (λ was _. bytes.items ≡ take count (drop (at + 5) was))) }

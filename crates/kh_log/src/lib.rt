@@ -13,3 +13,6 @@ pub use record::{Record, prepare};
 
 // the byte of an open gate
 const OPEN: u8 = 0xa5;
+
+#[cfg(test)]
+mod tests;

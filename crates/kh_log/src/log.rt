@@ -118,7 +118,11 @@ impl Log {
     }
 
     /// The bytes of the next record; None once all are read.
-    pub fn read<H: Host>(&mut self, alloc: Global, host: &mut H) -> Result<Option<Vec<u8>>, LogError>
+    pub fn read<H: Host>(
+        &mut self,
+        alloc: Global,
+        host: &mut H,
+    ) -> Result<Option<Vec<u8>>, LogError>
         requires found { IfSome (H.seen host.old self.old.file) (Holds self.old) }
         ensures next { IfOk result (λ r. IfSome r (λ bytes. Told (H.seen host.old self.old.file) (H.seen host.new self.old.file)
             (λ was _. slice_get (records_of was) self.old.read ≡ Some bytes.items))) }

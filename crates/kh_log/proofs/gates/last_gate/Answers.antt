@@ -22,7 +22,8 @@ loop-next-init g c = record {
   input = kept_same (g.D.Disk.left c.args.disk.now);
   sink = kept_same (g.D.Disk.given c.args.disk.now);
   read_faults = refl;
-  write_faults = refl }
+  write_faults = refl;
+}
 
 pub loop-next-preserved : goal.loop-next-preserved
 loop-next-preserved g c =
@@ -43,7 +44,8 @@ loop-next-preserved g c =
       input = kept_both _ _ _ i.input e.input;
       sink = kept_both _ _ _ i.sink e.sink;
       read_faults = e.read_faults ∙ i.read_faults;
-      write_faults = e.write_faults ∙ i.write_faults }
+      write_faults = e.write_faults ∙ i.write_faults;
+    }
 
 pub returns-in_err-next-clause-lacks : goal.returns-in_err-next-clause-lacks
 returns-in_err-next-clause-lacks g c = λ o is.

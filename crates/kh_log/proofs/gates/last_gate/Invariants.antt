@@ -20,7 +20,8 @@ invariant-loop-next g l = record {
   input : Kept (g.D.Disk.left l.fn.disk) (g.D.Disk.left l.disk);
   sink : Kept (g.D.Disk.given l.fn.disk) (g.D.Disk.given l.disk);
   read_faults : g.D.Disk.read_faults l.disk ≡ g.D.Disk.read_faults l.fn.disk;
-  write_faults : g.D.Disk.write_faults l.disk ≡ g.D.Disk.write_faults l.fn.disk }
+  write_faults : g.D.Disk.write_faults l.disk ≡ g.D.Disk.write_faults l.fn.disk;
+}
 
 abbrev pub decreases-loop-next : goal.decreases-loop-next
 decreases-loop-next g l = l.len - l.at
