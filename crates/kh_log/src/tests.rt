@@ -206,3 +206,33 @@ fn each_failed_call_of_an_append_is_a_fault(rt: HostRuntime) -> Result<(), Fail>
     }
     Ok(())
 }
+
+// The records of a log that has two, and whether nothing stands behind them.
+fn read_two<H: Host>(
+    alloc: Global,
+    host: &mut H,
+) -> Result<(Option<Vec<u8>>, Option<Vec<u8>>, bool), LogError> {
+    let mut log = Log::open(host, 1)?;
+    let first = log.read(alloc, host)?;
+    let second = log.read(alloc, host)?;
+    let none = log.read(alloc, host)?;
+    Ok((first, second, none.is_none()))
+}
+
+#[test]
+fn records_are_read_in_order(rt: HostRuntime) -> Result<(), Fail> {
+    let alloc = rt.alloc();
+    let mut host = host(alloc, TWO, &[])?;
+    let (first, second, ended) = read_two(alloc, &mut host)?;
+    assert_eq!(rt; held(&first), b"ab".as_slice());
+    assert_eq!(rt; held(&second), b"c".as_slice());
+    assert_eq!(rt; ended, true);
+    Ok(())
+}
+
+fn held(record: &Option<Vec<u8>>) -> &[u8] {
+    match record {
+        Some(bytes) => bytes.as_slice(),
+        None => b"none",
+    }
+}
