@@ -1,13 +1,13 @@
 -- What a crash leaves in each step of an append.
-use Rattle.std.proofs.Common.{◌≡◌, ◌≢◌, ◌⊎◌, inl, inr, ℕ, zero, suc, ◌+◌, ◌-◌, ◌<◌, ◌≤◌, ◌^◌, List, [], ◌∷◌, ◌++◌, length, take, drop, Option, Some, None, refl, sym, ap, subst, ◌∙◌, arith, append_assoc, length-append, length-drop, length-take}
+use Rattle.std.proofs.Common.{◌≡◌, ◌≢◌, inl, inr, ℕ, ◌+◌, ◌<◌, ◌≤◌, ◌^◌, List, [], ◌∷◌, ◌++◌, length, take, drop, refl, sym, ap, subst, ◌∙◌, arith, append_assoc, length-append, length-drop}
 use Rattle.std.proofs.lemmas.List.{append-nil, take_at, drop_at, drop-drop, take-append-drop}
 use Rattle.std.proofs.lemmas.Bool.{cases_eq}
 use Rattle.byteorder.specs.Numbers.{length-bytes_high_first}
 use Rattle.byteorder.specs.Endian.{big_bytes}
 use Rattle.kh_io.specs.Disk.{put, Torn}
-use Rattle.kh_log.specs.Records.{open_gate, Content, content_of, records_of, span, log_of, IsClosedAt}
+use Rattle.kh_log.specs.Records.{open_gate, Content, content_of, records_of, span, log_of}
 use Rattle.kh_log.specs.Log.{whole, EndsAt, IsBeforeOrAfter}
-use Rattle.kh_log.proofs.Records.{length_of-big_bytes, Front, Behind, behind_records, length-front, front-append, content_closed, span-append, first_of_some}
+use Rattle.kh_log.proofs.Records.{length_of-big_bytes, Front, Behind, behind_records, length-front, front-append, content_closed, first_of_some}
 
 -- the records, a closed gate behind them, and anything
 pub record Split (last : ℕ) (rs : List (List ℕ)) (bytes : List ℕ) : Type 0 where

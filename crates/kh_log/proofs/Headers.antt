@@ -1,9 +1,9 @@
 -- The gate and the length that stand at a place, from the bytes that were read there.
-use Rattle.std.proofs.Common.{◌≡◌, ℕ, zero, suc, ◌+◌, ◌-◌, ◌<◌, ◌≤◌, List, [], ◌∷◌, ◌++◌, length, take, drop, get_or, min, refl, sym, ap, subst, ◌∙◌, arith, length-take, length-drop}
+use Rattle.std.proofs.Common.{◌≡◌, ℕ, zero, suc, ◌+◌, ◌-◌, ◌<◌, ◌≤◌, List, [], ◌∷◌, length, take, drop, get_or, sym, ap, ◌∙◌, arith, length-take, length-drop}
 use Rattle.std.specs.Prelude.{slice_index}
 use Rattle.std.proofs.lemmas.List.{drop_more, drop-drop, drop-take, take_all, take-append-drop}
 use Rattle.kh_io.specs.Disk.{IsReadAt}
-use Rattle.kh_log.specs.Records.{open_gate, length_of, LacksAt, IsOpenAt, IsClosedAt}
+use Rattle.kh_log.specs.Records.{open_gate, length_of, LacksAt, IsOpenAt}
 use Rattle.kh_log.proofs.Records.{length_of-append}
 
 same_first : (count g : ℕ) (header rest : List ℕ) → 1 ≤ count → 1 ≤ length header → take count header ≡ take count (g ∷ rest) → slice_index header 0 ≡ g

@@ -9,7 +9,7 @@ use Rattle.kh_log.specs.Records.{open_gate, Content, records_of, log_of, span, I
 use Rattle.kh_log.specs.Log.{Place, Holds, ImagesAre, moved, begun_at, EndsAt, IsBeforeOrAfter, IsGroup, Appending, Writing}
 use Rattle.std.proofs.lemmas.List.{take_all}
 use Rattle.kh_log.proofs.Records.{span-append, length-front}
-use Rattle.kh_log.proofs.Append.{ends_at, nothing_split, Staged, Group, group_of, torn_behind, written_behind, torn_gate, written_gate}
+use Rattle.kh_log.proofs.Append.{ends_at, nothing_split, Staged, group_of, torn_behind, written_behind, torn_gate, written_gate}
 
 pub longer : (at : ℕ) (bytes was : List ℕ) → at ≤ length was → length was ≤ length (put was at bytes)
 longer at bytes was le = omega (arith, le, length-append (take at was ++ bytes) (drop (at + length bytes) was), length-append (take at was) bytes, length-take at was, length-drop (at + length bytes) was)

@@ -1,12 +1,11 @@
 -- What logs hold, from their parts.
-use Rattle.std.proofs.Common.{◌≡◌, ◌≢◌, ◌⊎◌, inl, inr, ℕ, zero, suc, ◌+◌, ◌-◌, ◌<◌, ◌≤◌, ◌^◌, List, [], ◌∷◌, ◌++◌, length, take, drop, Option, Some, None, refl, sym, ap, subst, ◌∙◌, arith, append_assoc, length-append, length-drop, length-take}
-use Rattle.std.specs.Prelude.{nat_lt, slice_index, slice_get}
+use Rattle.std.proofs.Common.{◌≡◌, ◌≢◌, inl, inr, ℕ, zero, suc, ◌+◌, ◌-◌, ◌<◌, ◌≤◌, ◌^◌, List, [], ◌∷◌, ◌++◌, length, take, drop, Some, None, refl, sym, ap, subst, ◌∙◌, arith, append_assoc, length-append, length-drop, length-take}
 use Rattle.std.proofs.lemmas.List.{append-nil, take_at, drop_at, drop-drop, take-append-drop}
 use Rattle.std.proofs.lemmas.Bool.{cases_eq, cases_lt}
 use Rattle.std.proofs.lemmas.Bool.Decides.{nat_tests}
-use Rattle.byteorder.specs.Endian.{big_bytes, big_number}
-use Rattle.byteorder.specs.Numbers.{big_from-append, big_number-reads_back, length-bytes_high_first}
-use Rattle.kh_log.specs.Records.{open_gate, length_of, Content, no_content, with_record, content_from, content_of, records_of, lacking_in, span, log_of, IsClosedAt}
+use Rattle.byteorder.specs.Endian.{big_bytes}
+use Rattle.byteorder.specs.Numbers.{big_from-append, big_number-reads_back}
+use Rattle.kh_log.specs.Records.{open_gate, length_of, Content, no_content, with_record, content_from, content_of, records_of, span}
 
 -- the length stands in the first four bytes
 pub length_of-append : (h rest : List ℕ) → length h ≡ 4 → length_of (h ++ rest) ≡ length_of h

@@ -8,10 +8,10 @@ use Rattle.kh_io.specs.Told.{Told, Kept}
 use Rattle.kh_io.specs.Disk.{Stays, FilesStay, LeavesOnly}
 use Rattle.kh_io.proofs.Moments.{both, images_stay}
 use Rattle.kh_io.proofs.Telling.{told_both, told_map, kept_both}
-use Rattle.kh_log.specs.Records.{open_gate, length_of, Content, content_from, content_of, records_of, lacking_in, span, IsClosedAt, IsOpenAt, LacksAt, record_at}
+use Rattle.kh_log.specs.Records.{open_gate, length_of, Content, content_from, records_of, lacking_in, span, IsClosedAt, IsOpenAt, LacksAt, record_at}
 use Rattle.kh_log.specs.Log.{Place, Holds, passed, EndsAt, Reading}
-use Rattle.kh_log.proofs.Records.{behind_records, length_of-append, Front, Behind, with_records, with_records-is, content_of-front, content_of-short, nothing_behind, more_behind, lacking_step, front-append, length-front}
-use Rattle.kh_log.proofs.Append.{Split, ends_at}
+use Rattle.kh_log.proofs.Records.{behind_records, length_of-append, Front, with_records, with_records-is, content_of-front, content_of-short, nothing_behind, more_behind, lacking_step, front-append, length-front}
+use Rattle.kh_log.proofs.Append.{ends_at}
 
 -- at this place, behind this many whole records, there is a gate
 pub record Stands (at count : ℕ) (bytes : List ℕ) : Type 0 where

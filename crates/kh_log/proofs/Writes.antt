@@ -1,5 +1,5 @@
 -- What a crash leaves while bytes are written at one place.
-use Rattle.std.proofs.Common.{ℕ, ◌≡◌, ◌≢◌, ◌<◌, ◌≤◌, List, refl, ◌∙◌, arith}
+use Rattle.std.proofs.Common.{ℕ, ◌≡◌, ◌≢◌, ◌<◌, List, refl, arith}
 use Rattle.kh_io.specs.declared.files.Files.{Files}
 use Rattle.kh_io.specs.Disk.{file_of, AreImages, Torn}
 use Rattle.kh_log.specs.Log.{Writing}

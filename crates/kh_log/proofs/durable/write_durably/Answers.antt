@@ -1,4 +1,4 @@
-use Rattle.std.proofs.Common.{ℕ, List, length, arith}
+use Rattle.std.proofs.Common.{length, arith}
 use Rattle.kh_io.proofs.Moments.{started, goes_on}
 use Rattle.kh_log.proofs.Writes.{torn_not, writing}
 use Rattle.kh_log.specs.Log.{Writing}

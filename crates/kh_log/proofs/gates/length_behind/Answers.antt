@@ -1,4 +1,4 @@
-use Rattle.std.proofs.Common.{◌≡◌, ◌≤◌, ◌+◌, ℕ, List, length, drop, sym, ap, ◌∙◌, arith}
+use Rattle.std.proofs.Common.{◌≡◌, ◌≤◌, ◌+◌, ℕ, List, length, drop, ◌∙◌}
 use Rattle.kh_io.proofs.Telling.{told_map}
 use Rattle.kh_log.specs.Records.{IsOpenAt, length_of}
 use Rattle.kh_log.proofs.Headers.{length_read, length_there, ends_within}

@@ -1,7 +1,5 @@
-use Rattle.std.proofs.Common.{◌≡◌, ℕ, ◌+◌, ◌-◌, ◌<◌, length, take, drop, sym, ap, ◌∙◌, refl, arith, length-drop}
-use Rattle.std.specs.Prelude.{slice_index}
-use Rattle.std.proofs.lemmas.List.{take_all}
-use Rattle.kh_log.specs.Records.{open_gate, length_of}
+use Rattle.std.proofs.Common.{◌<◌, length, ap, ◌∙◌, arith}
+use Rattle.kh_log.specs.Records.{length_of}
 use Rattle.kh_log.proofs.Headers.{lacks_header, lacks_bytes, open_header, rest_of}
 use Rattle.kh_log.proofs.gates.next_gate.Goals as goal
 

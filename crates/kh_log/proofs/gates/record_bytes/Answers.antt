@@ -1,4 +1,4 @@
-use Rattle.std.proofs.Common.{◌≡◌, ◌≤◌, ℕ, length, sym, ap, subst, ◌∙◌, arith}
+use Rattle.std.proofs.Common.{◌≤◌, ℕ}
 use Rattle.kh_log.specs.Records.{IsOpenAt}
 use Rattle.kh_log.proofs.Walk.{told_again}
 use Rattle.kh_log.proofs.Headers.{bytes_there}

@@ -1,4 +1,4 @@
-use Rattle.std.proofs.Common.{◌≡◌, ◌<◌, ◌^◌, ℕ, List, [], ◌∷◌, length, ◌∙◌, ap, arith}
+use Rattle.std.proofs.Common.{◌≡◌, ℕ, List, [], ◌∷◌, length, ◌∙◌, ap, arith}
 use Rattle.kh_log.specs.Records.{open_gate, log_of}
 use Rattle.kh_log.proofs.Append.{logged, logged_back}
 use Rattle.kh_log.proofs.record.prepare.Goals as goal

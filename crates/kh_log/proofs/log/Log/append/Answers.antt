@@ -1,9 +1,9 @@
-use Rattle.std.proofs.Common.{◌≡◌, ℕ, ◌+◌, ◌*◌, ◌<◌, ◌≤◌, ◌^◌, List, [], ◌∷◌, ◌++◌, length, Option, sym, ap, subst, ◌∙◌, arith}
+use Rattle.std.proofs.Common.{◌≡◌, ℕ, ◌+◌, ◌*◌, ◌<◌, ◌≤◌, ◌^◌, List, ◌++◌, length, sym, ap, subst, ◌∙◌, arith}
 use Rattle.std.specs.Prelude.{IfSome}
 use Rattle.kh_io.specs.Disk.{LeavesOnly}
 use Rattle.kh_io.specs.Told.{Told}
 use Rattle.kh_log.specs.Records.{log_of, span, records_of}
-use Rattle.kh_log.specs.Log.{Place, IsGroup, Holds, EndsAt, Appending, moved}
+use Rattle.kh_log.specs.Log.{Place, IsGroup, Holds, EndsAt, Appending}
 use Rattle.kh_log.proofs.Opening.{start_of, told_ends, told_holds, is_group, length_group, span_least, moved_is}
 use Rattle.kh_log.proofs.log.Log.append.Goals as goal
 

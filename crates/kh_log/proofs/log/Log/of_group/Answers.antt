@@ -1,4 +1,4 @@
-use Rattle.std.proofs.Common.{◌≡◌, ℕ, ◌+◌, ◌*◌, ◌≤◌, List, length, refl, sym, ap, subst, ◌∙◌, arith}
+use Rattle.std.proofs.Common.{◌≡◌, length, refl, sym, ap, subst, ◌∙◌, arith}
 use Rattle.kh_log.specs.Records.{log_of, span, IsClosedAt}
 use Rattle.kh_log.specs.Log.{Place, Holds}
 use Rattle.kh_log.proofs.Opening.{is_group, length_group, span_least, group_ends, begun_holds, begun_is}

@@ -1,10 +1,10 @@
-use Rattle.std.proofs.Common.{◌≡◌, ◌≤◌, ◌<◌, ◌+◌, ℕ, List, length, Err, sym, ap, subst, ◌∙◌, arith, rules, Vec}
+use Rattle.std.proofs.Common.{◌≡◌, ◌≤◌, ◌<◌, ◌+◌, ℕ, length, Err, sym, ap, subst, ◌∙◌, arith, rules, Vec}
 use Rattle.std.specs.declared.alloc.Global.{Global}
 use Rattle.std.specs.Prelude.{IsErrOf, IfSome}
 use Rattle.kh_io.specs.Told.{Told}
 use Rattle.kh_log.specs.declared.error.LogError.TheVariants.{NotALog}
 use Rattle.kh_log.specs.Records.{IsOpenAt, record_at}
-use Rattle.kh_log.specs.Log.{Place, Holds, passed}
+use Rattle.kh_log.specs.Log.{Place, Holds}
 use Rattle.kh_log.proofs.Walk.{read_next, read_lacks, read_holds}
 use Rattle.kh_log.proofs.log.Log.read.Goals as goal
 
