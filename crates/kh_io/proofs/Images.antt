@@ -1,15 +1,12 @@
 -- What a crash may leave of a file.
-use Rattle.std.proofs.Common.{ℕ, suc, ◌≡◌, ◌+◌, ◌-◌, ◌<◌, ◌≤◌, ◌⊎◌, max, min, Bool, true, false, List, [], ◌∷◌, ◌++◌, length, take, drop, get_or, sym, ap, subst, ◌∙◌, inl, inr, arith, length-append, length-drop, refl, IsTrue, IsFalse, ◌||◌, ◌&&◌, nat_le, nat_lt, not, fold, ◌==◌, if◌then◌else◌}
+use Rattle.std.proofs.Common.{ℕ, suc, ◌≡◌, ◌+◌, ◌-◌, ◌<◌, ◌≤◌, ◌⊎◌, max, min, Bool, true, false, List, length, take, drop, get_or, sym, ap, ◌∙◌, inl, inr, arith, length-drop, refl, IsFalse, ◌||◌, ◌&&◌, nat_le}
 use Rattle.std.specs.List.{list_any}
 use Rattle.std.proofs.lemmas.Bool.{true≢false, leb-false, lt-leb, le-leb, cases_lt}
-use Rattle.std.proofs.lemmas.List.{length-take, length-take-le, take-append-le, take-append-drop, drop-drop, get_or_append_left, get_or-append_right, get_or-take, get_or-drop, ext_get_or}
-use Rattle.std.proofs.lemmas.Grind.{common_steps, elements}
-use Rattle.kh_io.specs.declared.files.Files.{Files}
-use Rattle.kh_io.specs.Call.{Call, Take, Give, Len, ReadAt, WriteAt, Cut, Sync}
-use Rattle.kh_io.specs.Disk.{file_of, put, Torn, CutBack}
-use Rattle.kh_io.specs.FileState.{FileState, synced, written, cut_to, after, state_after, is_within, is_unsafe, IsImage}
+use Rattle.std.proofs.lemmas.List.{length-take, get_or-take, get_or-drop, ext_get_or}
+use Rattle.kh_io.specs.Disk.{put, Torn, CutBack}
+use Rattle.kh_io.specs.FileState.{FileState, synced, written, cut_to, is_within, is_unsafe, IsImage}
 use Rattle.kh_io.specs.Laws.{Sane}
-use Rattle.kh_io.proofs.Lists.{length-put, put_before, put_in, put_behind, take_from_gets, drop_from_gets, get_in_front, get_behind, front_lengths, rest_lengths, Overlay, overlay}
+use Rattle.kh_io.proofs.Lists.{length-put, put_before, put_in, put_behind, take_from_gets, drop_from_gets, get_in_front, get_behind, front_lengths, Overlay, overlay}
 
 or_parts : (a b : Bool) → (a || b) ≡ false → (a ≡ false) × (b ≡ false)
 or_parts true b h = absurd (true≢false h)

@@ -1,6 +1,6 @@
 -- Fronts and rests of lists.
-use Rattle.std.proofs.Common.{ℕ, ◌≡◌, ◌+◌, ◌-◌, ◌<◌, ◌≤◌, max, min, inl, inr, List, [], ◌++◌, length, take, drop, get_or, sym, ap, ◌∙◌, arith, length-append, length-drop, refl}
-use Rattle.std.proofs.lemmas.List.{length-take, length-take-le, take-append-le, take-append-drop, drop-drop, get_or_append_left, get_or-append_right, get_or-take, get_or-drop, ext_get_or}
+use Rattle.std.proofs.Common.{ℕ, ◌≡◌, ◌+◌, ◌-◌, ◌<◌, ◌≤◌, max, min, inl, inr, List, ◌++◌, length, take, drop, get_or, sym, ap, ◌∙◌, arith, length-append, length-drop, refl}
+use Rattle.std.proofs.lemmas.List.{length-take, length-take-le, take-append-drop, drop-drop, get_or-take, get_or-drop, ext_get_or}
 use Rattle.std.proofs.lemmas.Grind.{common_steps, elements}
 use Rattle.std.proofs.lemmas.Bool.{cases_lt}
 use Rattle.kh_io.specs.Disk.{put}

@@ -1,7 +1,7 @@
 -- Moments, for the crates above: what a crash may leave over a run of calls.
-use Rattle.std.proofs.Common.{ℕ, ◌≡◌, ◌≢◌, ◌⊎◌, ◌<◌, ◌≤◌, List, Option, Some, refl, sym, ap, subst, ◌∙◌, inl, inr, arith, ne_eqb}
+use Rattle.std.proofs.Common.{ℕ, ◌≢◌, ◌<◌, ◌≤◌, List, Option, inl, inr, arith}
 use Rattle.kh_io.specs.declared.files.Files.{Files}
-use Rattle.kh_io.specs.Disk.{file_of, AreImages, Stays, FilesStay, OthersStay, Elapses, LeavesOnly}
+use Rattle.kh_io.specs.Disk.{file_of, AreImages, FilesStay, OthersStay, Elapses, LeavesOnly}
 
 -- before the first call: only what a crash may leave now
 pub started : {P : Files → ℕ → Type 0} (moment : ℕ) (since : ℕ → Files → ℕ → Type 0)

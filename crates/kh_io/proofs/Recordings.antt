@@ -1,16 +1,15 @@
 -- One more call of a host in memory.
-use Rattle.std.proofs.Common.{ℕ, zero, suc, ◌≡◌, ◌≢◌, ◌&&◌, ◌+◌, ◌*◌, ◌<◌, ◌≤◌, min, Bool, true, false, not, List, [], ◌∷◌, ◌++◌, Option, Some, None, length, take, drop, sum_by, flat_map, fold, refl, sym, ap, ◌∙◌, arith, append-nil, ne_eqb, eq-eqb, IsTrue, ◌==◌, if◌then◌else◌, length-append}
+use Rattle.std.proofs.Common.{ℕ, zero, suc, ◌≡◌, ◌&&◌, ◌+◌, ◌<◌, ◌≤◌, Bool, true, false, not, List, [], ◌∷◌, ◌++◌, Some, None, length, sum_by, refl, ap, ◌∙◌, arith, append-nil, ne_eqb, eq-eqb, IsTrue, ◌==◌, if◌then◌else◌, length-append}
 use Rattle.std.proofs.lemmas.List.Sums.{sum_by-cons, sum_by_push, fold-append}
 use Rattle.std.proofs.lemmas.List.Concat.{flat_map-append}
 use Rattle.std.proofs.lemmas.List.{length-take}
-use Rattle.std.proofs.lemmas.Grind.{common_steps}
-use Rattle.std.proofs.lemmas.Bool.{true≢false, false≢true}
+use Rattle.std.proofs.lemmas.Bool.{false≢true}
 use Rattle.kh_io.specs.declared.files.Files.{Files}
 use Rattle.kh_io.specs.Call.{Call, Take, Give, Len, ReadAt, WriteAt, Cut, Sync, moved, cost}
-use Rattle.kh_io.specs.Disk.{file_of, put}
+use Rattle.kh_io.specs.Disk.{file_of}
 use Rattle.kh_io.specs.Contents.{with_file}
 use Rattle.kh_io.specs.FileState.{FileState, synced, written, cut_to, after, state_after}
-use Rattle.kh_io.specs.Recording.{Recording, takes, gives, given_in, seen_after, is_idle}
+use Rattle.kh_io.specs.Recording.{takes, gives, given_in, seen_after, is_idle}
 
 -- a call adds its bytes to the sink
 pub given_push : (calls : List Call) (call : Call) → given_in (calls ++ call ∷ []) ≡ given_in calls ++ gives call

@@ -1,16 +1,16 @@
 -- What one more call of a host in memory does to its files and to time.
-use Rattle.std.proofs.Common.{ℕ, ◌≡◌, ◌≢◌, ◌⊎◌, ◌+◌, ◌<◌, ◌≤◌, Bool, true, false, List, [], ◌∷◌, ◌++◌, Option, Some, None, length, take, refl, sym, ap, subst, ◌∙◌, inl, inr, arith, ne_eqb, eq-eqb, IsTrue, IsFalse, IsSome, IfSome, ◌==◌, ◌&&◌, if◌then◌else◌, length-append, append-nil, drop, min, sum_by, nat_lt, ◌^◌, ◌-◌, lt-ltb}
+use Rattle.std.proofs.Common.{ℕ, ◌≡◌, ◌≢◌, ◌⊎◌, ◌+◌, ◌<◌, ◌≤◌, Bool, true, false, List, [], ◌∷◌, ◌++◌, Option, Some, None, length, take, refl, sym, ap, subst, ◌∙◌, inl, inr, arith, ne_eqb, eq-eqb, IsTrue, IsFalse, IfSome, ◌==◌, ◌&&◌, if◌then◌else◌, length-append, append-nil, drop, min, sum_by, nat_lt, ◌^◌, ◌-◌, lt-ltb}
 use Rattle.std.proofs.lemmas.List.{take-append-le, take-append-drop, drop-drop, length-take-le, take_all, nil_from_length}
 use Rattle.std.proofs.Math.Seq.{take-length}
 use Rattle.std.proofs.lemmas.List.Sums.{sum_by_push}
 use Rattle.std.proofs.lemmas.Bool.{true≢false, false≢true, cases_lt}
 use Rattle.kh_io.specs.declared.files.Files.{Files}
 use Rattle.kh_io.specs.Call.{Call, cost, Take, Give, Len, ReadAt, WriteAt, Cut, Sync}
-use Rattle.kh_io.specs.Disk.{AreImages, Stays, FilesStay, OthersStay, Follows, Torn, CutBack, CutPart, IsSafe, Elapses}
+use Rattle.kh_io.specs.Disk.{Stays, Follows, Torn, CutBack, CutPart, IsSafe, Elapses}
 use Rattle.kh_io.specs.Told.{Told, Gains, Rose, IsFrontOf}
 use Rattle.kh_io.specs.Memory.{one_more}
 use Rattle.kh_io.specs.FileState.{FileState, synced, written, cut_to, after, state_after, IsImage}
-use Rattle.kh_io.specs.Recording.{Recording, HasRoom, takes, gives, left_after, given_in, seen_after, image_after, left_since, noted}
+use Rattle.kh_io.specs.Recording.{Recording, HasRoom, takes, gives, left_after, given_in, seen_after, image_after, left_since}
 use Rattle.kh_io.specs.Laws.{sane_state, now_is_image}
 use Rattle.kh_io.proofs.Images.{torn_only, torn_all, cut_only, cut_all, image_of_synced}
 use Rattle.kh_io.proofs.Recordings.{given_push, state_push}

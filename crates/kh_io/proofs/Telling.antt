@@ -1,7 +1,7 @@
 -- What is told, and counts, for the crates above: over two calls, one after the other.
-use Rattle.std.proofs.Common.{ℕ, ◌≡◌, ◌+◌, ◌-◌, ◌^◌, ◌<◌, ◌≤◌, List, [], ◌∷◌, ◌++◌, Option, Some, None, refl, sym, ap, inl, inr, ◌∙◌, arith, append_assoc}
+use Rattle.std.proofs.Common.{ℕ, ◌≡◌, ◌-◌, ◌^◌, ◌<◌, ◌≤◌, List, ◌++◌, Option, Some, None, refl, ap, inl, inr, ◌∙◌, arith, append_assoc}
 use Rattle.std.proofs.lemmas.Bool.{cases_lt}
-use Rattle.kh_io.specs.Told.{Told, Kept, Extends, Gains, Rose}
+use Rattle.kh_io.specs.Told.{Told, Kept, Extends, Rose}
 
 -- what is told at exit was told at entry
 pub told_before : {A : Type 0} (P : A → A → Type 0) (old : Option A) (new : A) → Told old (Some new) P → (was : A) × (old ≡ Some was) × P was new

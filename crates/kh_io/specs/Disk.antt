@@ -1,7 +1,7 @@
 -- What the calls of a disk do to its files, and what a crash leaves of them.
-use Rattle.std.specs.Prelude.{◌≡◌, ◌≢◌, ◌⊎◌, ℕ, zero, suc, ◌+◌, ◌-◌, ◌<◌, ◌≤◌, max, min, List, ◌++◌, length, take, drop, Option, Some, None, Result, IsSome, IfOk}
+use Rattle.std.specs.Prelude.{◌≡◌, ◌≢◌, ◌⊎◌, ℕ, zero, suc, ◌+◌, ◌-◌, ◌<◌, ◌≤◌, max, min, List, ◌++◌, length, take, drop, Option, Some, IsSome}
 use Rattle.kh_io.specs.declared.files.Files.{Files}
-use Rattle.kh_io.specs.Told.{Told, Kept}
+use Rattle.kh_io.specs.Told.{Kept}
 
 -- the bytes of a file by its number: the snapshot and the log of slot 0, and those of slot 1
 abbrev pub file_of : Files → ℕ → List ℕ

@@ -1,8 +1,8 @@
 -- The laws of a host in memory.
-use Rattle.std.specs.Prelude.{◌≡◌, ℕ, ◌+◌, ◌-◌, ◌≤◌, max, min, Bool, true, false, ◌&&◌, if◌then◌else◌, ◌==◌, List, [], ◌∷◌, length, take, drop, fold, refl, Some, None, Option, MatchBool, is_some}
+use Rattle.std.specs.Prelude.{◌≡◌, ℕ, ◌+◌, ◌-◌, ◌≤◌, min, Bool, true, false, ◌&&◌, if◌then◌else◌, ◌==◌, List, [], ◌∷◌, length, take, fold, refl, Some, None, Option, MatchBool, is_some}
 use Rattle.std.proofs.lemmas.Bool.{false≢true, true≢false}
 use Rattle.kh_io.specs.Sound.{Sound, told, sound_image, sound_since}
-use Rattle.std.proofs.Common.{arith, sym, ◌∙◌, ap, subst, length-append, length-drop}
+use Rattle.std.proofs.Common.{arith, ◌∙◌, ap, subst, length-append, length-drop}
 use Rattle.std.proofs.lemmas.List.{length-take, take_all}
 use Rattle.kh_io.specs.declared.files.Files.{Files}
 use Rattle.kh_io.specs.Call.{Call, Take, Give, Len, ReadAt, WriteAt, Cut, Sync}
@@ -135,6 +135,7 @@ some_not_none {A} same = true≢false (ap is_some same)
 
 pub sound_untold : (s : Sound) (file : ℕ) (bytes : List ℕ) → told s (seen_after s.tape.first s.tape.calls file) ≡ None → sound_image s file bytes → ⊥
 sound_untold s file bytes untold image = elim s.past as (λ b.
-      (if b then None else Some (seen_after s.tape.first s.tape.calls file)) ≡ None → MatchBool b ⊥ (image_after s.tape.first s.tape.calls file bytes) → ⊥) [
-    true ↦ λ none left. left
-  | false ↦ λ some left. absurd (some_not_none some) ] untold image
+    (if b then None else Some (seen_after s.tape.first s.tape.calls file)) ≡ None → MatchBool b ⊥ (image_after s.tape.first s.tape.calls file bytes) → ⊥) [
+      | true ↦ λ none left. left
+      | false ↦ λ some left. absurd (some_not_none some)
+    ] untold image

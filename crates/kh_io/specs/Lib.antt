@@ -2,7 +2,7 @@ pub mod Call
 pub mod Told
 pub mod Host
 pub mod Disk
-pub mod Kept
+pub mod JournalState
 pub mod Contents
 pub mod Memory
 pub mod Replay

@@ -1,5 +1,5 @@
 -- A host in memory, whose calls fail where they are listed.
-use Rattle.std.specs.Prelude.{◌≡◌, ℕ, ◌+◌, ◌-◌, ◌<◌, ◌^◌, min, Bool, true, false, if◌then◌else◌, List, [], length, Option, Some, None, ◌==◌, nat_lt}
+use Rattle.std.specs.Prelude.{ℕ, ◌+◌, ◌-◌, ◌^◌, min, Bool, true, false, if◌then◌else◌, List, [], length, Option, Some, None, ◌==◌, nat_lt}
 use Rattle.std.specs.List.{list_any}
 use Rattle.kh_io.specs.declared.files.Files.{Files}
 use Rattle.kh_io.specs.Call.{Call}

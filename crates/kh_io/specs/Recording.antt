@@ -1,10 +1,10 @@
 -- A host in memory as its calls so far: what it tells is made from them.
-use Rattle.std.specs.Prelude.{◌≡◌, ℕ, ◌+◌, ◌≤◌, Bool, true, false, not, List, [], ◌∷◌, ◌++◌, length, take, drop, sum_by, flat_map, Option, Some, None}
+use Rattle.std.specs.Prelude.{◌≡◌, ℕ, ◌≤◌, Bool, true, false, not, List, [], ◌∷◌, ◌++◌, length, take, drop, sum_by, flat_map, Some}
 use Rattle.kh_io.specs.declared.files.Files.{Files}
-use Rattle.kh_io.specs.Call.{Call, Take, Give, Len, ReadAt, WriteAt, Cut, Sync, answered_len}
-use Rattle.kh_io.specs.Kept.{Fits}
+use Rattle.kh_io.specs.Call.{Call, Take, Give, WriteAt, Cut, answered_len}
+use Rattle.kh_io.specs.JournalState.{Fits}
 use Rattle.kh_io.specs.Disk.{AreImages}
-use Rattle.kh_io.specs.FileState.{FileState, state_after, IsImage}
+use Rattle.kh_io.specs.FileState.{state_after, IsImage}
 
 pub record Recording : Type 0 where
   -- the whole input

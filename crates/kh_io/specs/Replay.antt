@@ -1,5 +1,5 @@
 -- A file as it stood after some of the calls.
-use Rattle.std.specs.Prelude.{◌≡◌, ℕ, ◌<◌, ◌||◌, nat_le, Bool, List, length, Option, Some, None, if◌then◌else◌, slice_index, unwrap_or}
+use Rattle.std.specs.Prelude.{◌≡◌, ℕ, ◌<◌, ◌||◌, nat_le, Bool, List, length, Option, if◌then◌else◌, slice_index, unwrap_or}
 use Rattle.std.specs.List.{list_any}
 use Rattle.kh_io.specs.declared.files.Files.{Files}
 use Rattle.kh_io.specs.Call.{Call}

@@ -1,8 +1,8 @@
 -- A host in memory without faults.
-use Rattle.std.specs.Prelude.{◌≡◌, ℕ, Bool, true, false, if◌then◌else◌, MatchBool, List, length, Option, Some, None}
+use Rattle.std.specs.Prelude.{ℕ, Bool, true, if◌then◌else◌, MatchBool, List, Option, Some, None}
 use Rattle.kh_io.specs.declared.files.Files.{Files}
 use Rattle.kh_io.specs.Call.{Call}
-use Rattle.kh_io.specs.Recording.{Recording, left_after, given_in, seen_after, image_after, left_since, noted}
+use Rattle.kh_io.specs.Recording.{Recording, image_after, left_since, noted}
 
 pub record Sound : Type 0 where
   -- the input, the files and the calls so far

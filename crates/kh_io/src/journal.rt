@@ -1,6 +1,6 @@
 //! The calls of a host in memory, with the bytes that they move.
 ghost use Rattle.std.specs.Prelude.{◌≡◌, ◌+◌, ◌*◌, ◌/◌, ◌<◌, ◌≤◌, ◌↔◌, ℕ, List, [], ◌∷◌, ◌++◌, length, IfOk, IsTrue, vec_len, vec_capacity, sum_by, fold, take};
-ghost use Rattle.kh_io.specs.Kept.{Kept, Fits};
+ghost use Rattle.kh_io.specs.JournalState.{JournalState, Fits};
 
 use crate::replay::{self, Replay};
 use crate::{NoMemory, room};
@@ -73,9 +73,9 @@ pub struct Journal {
 
 impl Model for Journal {
     ghost use Rattle.std.specs.Prelude.{◌≡◌, ◌+◌, ◌*◌, ◌/◌, ◌≤◌, ℕ, length, sum_by, vec_capacity};
-    ghost use Rattle.kh_io.specs.Kept.{Kept};
+    ghost use Rattle.kh_io.specs.JournalState.{JournalState};
 
-    ghost Value = { Kept };
+    ghost Value = { JournalState };
 
     ghost use Rattle.kh_io.specs.Entry.{calls_of, byte_count};
 

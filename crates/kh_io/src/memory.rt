@@ -42,7 +42,7 @@ impl Model for MemoryHost {
 }
 
 impl MemoryHost {
-    ghost use Rattle.kh_io.specs.Memory.{fresh, is_listed, add_call, stopped, disk_fault};
+    ghost use Rattle.kh_io.specs.Memory.{fresh, is_listed, add_call, stopped, disk_fault, read_fault};
     ghost use Rattle.kh_io.specs.Entry.{byte_count, call_of};
     ghost use Rattle.kh_io.specs.Recording.{is_idle};
 
@@ -115,6 +115,17 @@ impl MemoryHost {
     {
         self.recorder.note(entry, bytes);
         self.disk_faults = self.disk_faults.saturating_add(1);
+        Failed
+    }
+
+    // A `take` that fails since it is listed.
+    fn fail_take(&mut self, asked: usize) -> Failed
+        requires { HasRoom self.old.tape 0 }
+        ensures { self.new ≡ read_fault (add_call self.old (Take asked None)) }
+    {
+        let failed = Entry::Taken { asked, count: None };
+        self.recorder.note(failed, &[]);
+        self.read_faults = self.read_faults.saturating_add(1);
         Failed
     }
 }
@@ -306,13 +317,7 @@ impl Host for MemoryHost {
             return Err(Failed);
         }
         if listed {
-            let entry = Entry::Taken {
-                asked: into.len(),
-                count: None,
-            };
-            self.recorder.note(entry, &[]);
-            self.read_faults = self.read_faults.saturating_add(1);
-            return Err(Failed);
+            return Err(self.fail_take(into.len()));
         }
         self.recorder.take(into, count);
         Ok(count)

@@ -1,4 +1,4 @@
-use Rattle.std.proofs.Common.{ℕ, ◌≡◌, ◌<◌, ◌≤◌, get_or, if◌then◌else◌, length}
+use Rattle.std.proofs.Common.{ℕ, ◌≡◌, ◌<◌, ◌≤◌, get_or, if◌then◌else◌}
 use Rattle.kh_io.specs.Replay.{is_loose_at}
 use Rattle.kh_io.proofs.replay.overwrite.Given as goal
 

@@ -1,6 +1,6 @@
 use Rattle.std.proofs.Common.{refl, arith}
 use Rattle.kh_io.specs.FileState.{synced}
-use Rattle.kh_io.proofs.Replays.{midway_next, midway_end}
+use Rattle.kh_io.proofs.Replays.{midway_next}
 use Rattle.kh_io.proofs.replay.replayed.Goals as goal
 
 pub loop-entry-init : goal.loop-entry-init

@@ -1,4 +1,4 @@
-use Rattle.std.proofs.Common.{arith, ◌≡◌, ◌≤◌, ℕ, length, take, sym}
+use Rattle.std.proofs.Common.{◌≤◌, length, sym}
 use Rattle.std.proofs.lemmas.List.{length-take-le}
 use Rattle.kh_io.proofs.Calls.{length-calls_of, calls_of-take}
 use Rattle.kh_io.proofs.journal.Journal.replay.Goals as goal

@@ -1,8 +1,8 @@
 -- What the calls of the host's disk ensure gives what the trait asks.
-use Rattle.std.proofs.Common.{◌≡◌, ℕ, ◌⊎◌, ◌+◌, ◌<◌, length, List, take, Some, None, Ok, Err, true, false, inl, inr, refl, sym, ap, arith}
+use Rattle.std.proofs.Common.{length, take, Some, None, true, false, inl, inr, refl, ap, arith}
 use Rattle.std.proofs.lemmas.Bool.{false≢true}
-use Rattle.kh_io.specs.Call.{Call, Take, Give, Len, ReadAt, WriteAt, Cut, Sync}
-use Rattle.kh_io.specs.Memory.{Memory, is_listed, read_moves, read_len}
+use Rattle.kh_io.specs.Call.{Len, ReadAt, WriteAt, Cut, Sync}
+use Rattle.kh_io.specs.Memory.{is_listed, read_moves, read_len}
 use Rattle.kh_io.specs.Recording.{seen_after, image_after}
 use Rattle.kh_io.proofs.Steps.{three, stays_quiet, stays_same, quiet_len, quiet_read, quiet_write, quiet_cut, quiet_sync, quiet_failed_sync, time_noted, time_stands, follows_write, follows_cut, follows_none, safe_sync, sync_only, torn_none, cut_back_none, cut_part_none, state_written, state_cut, state_synced, sink_stays, input_stays, gains_noted, gains_stopped, one_more_rose, one_more_stands}
 use Rattle.kh_io.proofs.memory.MemoryHostDisk.TheImpl.Goals as goal

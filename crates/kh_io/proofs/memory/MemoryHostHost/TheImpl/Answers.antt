@@ -1,8 +1,8 @@
 -- What the calls of the host ensure gives what the trait asks.
-use Rattle.std.proofs.Common.{◌≡◌, ℕ, ◌⊎◌, ◌+◌, ◌<◌, length, List, take, Some, None, Ok, Err, true, false, inl, inr, refl, sym, ap, arith}
-use Rattle.kh_io.specs.Call.{Call, Take, Give}
-use Rattle.kh_io.specs.Memory.{Memory, is_listed, take_moves, take_len}
-use Rattle.kh_io.specs.Recording.{given_in, left_after}
+use Rattle.std.proofs.Common.{length, take, Some, None, inl, inr, refl, ap, arith}
+use Rattle.kh_io.specs.Call.{Take, Give}
+use Rattle.kh_io.specs.Memory.{is_listed, take_moves, take_len}
+use Rattle.kh_io.specs.Recording.{given_in}
 use Rattle.kh_io.proofs.Recordings.{given_push}
 use Rattle.kh_io.proofs.Steps.{three, stays_quiet, stays_same, quiet_take, quiet_give, time_noted, time_stands, sink_stays, input_stays, gains_noted, gains_stopped, one_more_rose, one_more_stands, taken_off, none_left, nothing_added, stamp_grows}
 use Rattle.kh_io.proofs.memory.MemoryHostHost.TheImpl.Goals as goal

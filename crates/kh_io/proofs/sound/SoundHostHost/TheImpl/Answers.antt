@@ -1,13 +1,12 @@
 -- What the calls of the host ensure gives what the trait asks.
-use Rattle.std.proofs.Common.{◌≡◌, ℕ, ◌⊎◌, ◌+◌, ◌<◌, ◌≤◌, length, List, [], ◌++◌, take, Some, None, Ok, Err, true, false, inl, inr, refl, sym, ap, arith}
+use Rattle.std.proofs.Common.{◌≡◌, length, [], ◌++◌, take, Some, inl, inr, refl, ap, arith}
 use Rattle.std.proofs.lemmas.Bool.{false≢true}
-use Rattle.kh_io.specs.Call.{Call, Take, Give, Len, ReadAt, WriteAt, Cut, Sync}
-use Rattle.kh_io.specs.Disk.{IsReadAt, put}
-use Rattle.kh_io.specs.Memory.{read_len, take_len}
-use Rattle.kh_io.specs.Sound.{Sound, sound_image, sound_since}
-use Rattle.kh_io.specs.Recording.{seen_after, image_after, left_after, given_in}
+use Rattle.kh_io.specs.Call.{Take, Give}
+use Rattle.kh_io.specs.Memory.{take_len}
+use Rattle.kh_io.specs.Sound.{sound_image, sound_since}
+use Rattle.kh_io.specs.Recording.{seen_after, left_after, given_in}
 use Rattle.kh_io.proofs.Recordings.{given_push}
-use Rattle.kh_io.proofs.Steps.{two, told_none, gains_gone, gone_stays, gone_follows, gone_time, condition, stays_quiet, quiet_take, quiet_give, quiet_len, quiet_read, quiet_write, quiet_cut, quiet_sync, time_noted, follows_write, follows_cut, safe_sync, sync_only, state_written, state_cut, state_synced, sink_stays, input_stays, taken_off, none_left, stamp_grows}
+use Rattle.kh_io.proofs.Steps.{two, told_none, gains_gone, gone_stays, gone_time, stays_quiet, quiet_take, quiet_give, time_noted, sink_stays, input_stays, taken_off, none_left, stamp_grows}
 use Rattle.kh_io.proofs.sound.SoundHostHost.TheImpl.Goals as goal
 
 pub take-tells : goal.take-tells

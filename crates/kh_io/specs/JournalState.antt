@@ -3,7 +3,7 @@ use Rattle.std.specs.Prelude.{ℕ, List, ◌+◌, ◌≤◌}
 use Rattle.kh_io.specs.Call.{Call, cost}
 
 -- the calls so far, and the room for calls
-pub record Kept : Type 0 where
+pub record JournalState : Type 0 where
   pub calls : List Call
   pub room : ℕ
 

@@ -1,0 +1,5 @@
+mod Places
+mod Chunks
+mod Lent
+mod Blocks
+pub mod Listed

@@ -1,0 +1,113 @@
+// That pushes succeed from chunk to chunk, and that a refused one changes nothing: run them too with an allocation refused.
+ghost use Rattle.std.specs.Prelude.{◌≡◌, ◌-◌, ◌+◌, ◌^◌, ◌<◌, [], ◌∷◌, ◌++◌, length};
+
+use crate::{Arena, NoMemory};
+use std::alloc::Global;
+use std::process::Abort;
+
+#[derive(Clone, Copy, Debug, PartialEq, Eq)]
+struct Pair {
+    head: u32,
+    tail: u32,
+}
+
+// Pushes an item, a second time where the first was refused.
+fn push<T: Copy>(rt: &impl Abort, arena: &mut Arena<T>, item: T) -> u32
+    requires { length arena.old < 2 ^ 32 - 1 }
+    ensures place { result ≡ length arena.old }
+    ensures appended { arena.new ≡ arena.old ++ item ∷ [] }
+{
+    let before = arena.len();
+    match arena.push(item) {
+        Ok(place) => place,
+        Err(NoMemory) => {
+            assert_eq!(rt; arena.len(), before);
+            arena.push(item).expect(rt, "memory is refused once")
+        }
+    }
+}
+
+// Pushes an item, reads it, and takes it away again.
+fn read_back<T: Copy>(rt: &impl Abort, arena: &mut Arena<T>, item: T) -> T
+    requires { length arena.old < 2 ^ 32 - 1 }
+    ensures item { result ≡ item }
+    ensures arena { arena.new ≡ arena.old }
+{
+    let place = push(rt, arena, item);
+    let read = *arena.get(place);
+    arena.cut(place);
+    read
+}
+
+// The numbers below `count`, each at its own place.
+fn numbers(rt: &impl Abort, alloc: Global, count: u32) -> Arena<u32>
+    requires { count < 2 ^ 32 - 1 }
+    ensures { length result ≡ count }
+{
+    let mut arena = Arena::new(alloc);
+    for n in 0..count {
+        assert_eq!(rt; push(rt, &mut arena, n), n);
+    }
+    arena
+}
+
+#[test]
+fn a_cut_gives_its_places_to_later_pushes(rt: HostRuntime) {
+    let mut arena = numbers(&rt, rt.alloc(), 10_000);
+    arena.cut(5000);
+    assert_eq!(rt; push(&rt, &mut arena, 7), 5000);
+    assert_eq!(rt; *arena.get(4999), 4999);
+    assert_eq!(rt; *arena.get(5000), 7);
+    assert_eq!(rt; arena.len(), 5001);
+}
+
+#[test]
+fn items_lie_on_both_sides_of_a_border(rt: HostRuntime) {
+    for count in [4095, 4096, 4097] {
+        let mut arena = numbers(&rt, rt.alloc(), count);
+        assert_eq!(rt; push(&rt, &mut arena, 7), count);
+        assert_eq!(rt; *arena.get(0), 0);
+        assert_eq!(rt; *arena.get(count - 1), count - 1);
+        assert_eq!(rt; *arena.get(count), 7);
+    }
+}
+
+#[test]
+fn an_arena_is_dropped_without_items(rt: HostRuntime) {
+    let arena: Arena<u32> = Arena::new(rt.alloc());
+    assert_eq!(rt; arena.len(), 0);
+}
+
+#[test]
+fn a_generic_caller_reads_back_items_of_two_types(rt: HostRuntime) {
+    let mut numbers = numbers(&rt, rt.alloc(), 2);
+    assert_eq!(rt; read_back(&rt, &mut numbers, 7), 7);
+    assert_eq!(rt; numbers.len(), 2);
+    let mut pairs = Arena::new(rt.alloc());
+    let pair = Pair { head: 1, tail: 2 };
+    assert_eq!(rt; push(&rt, &mut pairs, pair), 0);
+    assert_eq!(rt;
+        read_back(&rt, &mut pairs, Pair { head: 3, tail: 4 }),
+        Pair { head: 3, tail: 4 }
+    );
+    assert_eq!(rt; pairs.len(), 1);
+    assert_eq!(rt; *pairs.get(0), pair);
+}
+
+#[test]
+fn a_refused_chunk_leaves_the_items(rt: HostRuntime) {
+    let count = 3 * 4096 + 1;
+    let arena = numbers(&rt, rt.alloc(), count);
+    for n in 0..count {
+        assert_eq!(rt; *arena.get(n), n);
+    }
+}
+
+#[test]
+fn a_refusal_says_why(rt: HostRuntime) {
+    let shown = match format!(in rt.alloc(); "{}", NoMemory) {
+        Ok(shown) => shown,
+        Err(_) => format!(in rt.alloc(); "{}", NoMemory).expect(&rt, "memory is refused once"),
+    };
+    assert_eq!(rt; shown.as_str(), "out of memory");
+}

@@ -1,0 +1,10 @@
+pub mod InTurn
+pub mod Integers
+pub mod Parts
+pub mod Loops
+pub mod Steps
+pub mod Numbers
+pub mod FieldsRead
+pub mod TermsRead
+pub mod TermsAgain
+pub mod Place

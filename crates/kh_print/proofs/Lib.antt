@@ -1,0 +1,4 @@
+pub mod Hex
+pub mod InTurn
+pub mod Joined
+pub mod Layers

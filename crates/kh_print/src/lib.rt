@@ -1,0 +1,36 @@
+//! The canonical text of terms.
+#![tactic(auto)]
+
+ghost use Rattle.std.specs.Prelude.{◌≡◌, IfOk};
+ghost use Rattle.kh_text_defs.specs.Shown.{shown, shown_line};
+
+mod atom;
+mod binary;
+mod node;
+mod pieces;
+#[cfg(test)]
+mod tests;
+
+use crate::node::push_node;
+use crate::pieces::push_text;
+use kh_term::{NoMemory, Term};
+use std::alloc::Global;
+
+/// The canonical text of a term. Answers `NoMemory` where the text finds no room.
+pub fn print(alloc: Global, term: &Term) -> Result<Vec<u8>, NoMemory>
+    ensures text { IfOk result (λ bytes. bytes.items ≡ shown term.now.node) }
+{
+    let mut out = Vec::new(alloc);
+    push_node(&mut out, &term.node)?;
+    Ok(out)
+}
+
+/// A reply as a line: its canonical text, a dot and a newline. Answers `NoMemory` where the line finds no room.
+pub fn print_line(alloc: Global, reply: &Term) -> Result<Vec<u8>, NoMemory>
+    ensures line { IfOk result (λ bytes. bytes.items ≡ shown_line reply.now.node) }
+{
+    let mut out = Vec::new(alloc);
+    push_node(&mut out, &reply.node)?;
+    push_text(&mut out, b".\n")?;
+    Ok(out)
+}

@@ -1,0 +1,15 @@
+pub mod Steps
+pub mod Fronts
+pub mod Digits
+pub mod Names
+pub mod Words
+pub mod NamesRead
+pub mod Paths
+pub mod FormRead
+pub mod Grows
+pub mod Place
+pub mod Again
+pub mod Mends
+pub mod CutParts
+pub mod CutForms
+pub mod Stands

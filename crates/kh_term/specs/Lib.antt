@@ -1,0 +1,11 @@
+pub mod Laws
+pub mod Lemmas
+pub mod Lookup
+pub mod Make
+pub mod Name
+pub mod Order
+pub mod Packed
+pub mod Size
+pub mod Text
+pub mod WellFormed
+pub mod Whole

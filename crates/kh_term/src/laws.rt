@@ -1,0 +1,37 @@
+//! The laws of terms: what a clause states of every term. The functions have no code.
+ghost use Rattle.kh_term.specs.Laws.{OrderIsTotal, EqualIsSame, NamesCompareAsTerms, PathsCompareAsTerms, DepthIsAtMostSize, SizeIsAtMostTwicePacked, OnePackedSpelling};
+
+/// The order of terms is a total one.
+pub fn order_is_total()
+    ensures { OrderIsTotal }
+{}
+
+/// Two terms compare equal exactly where they are the same.
+pub fn equal_is_same()
+    ensures { EqualIsSame }
+{}
+
+/// Names compare as their terms do.
+pub fn names_compare_as_terms()
+    ensures { NamesCompareAsTerms }
+{}
+
+/// Paths compare as their terms do.
+pub fn paths_compare_as_terms()
+    ensures { PathsCompareAsTerms }
+{}
+
+/// A term is no deeper than it is large.
+pub fn depth_is_at_most_size()
+    ensures { DepthIsAtMostSize }
+{}
+
+/// A term's size is at most twice the number of its packed bytes.
+pub fn size_is_at_most_twice_packed()
+    ensures { SizeIsAtMostTwicePacked }
+{}
+
+/// Each term has packed bytes of its own, and none are the front of another's.
+pub fn one_packed_spelling()
+    ensures { OnePackedSpelling }
+{}

@@ -1,0 +1,199 @@
+//! Making terms of their parts.
+ghost use Rattle.std.specs.Prelude.{◌≡◌, ◌≤◌, ◌≢◌, [], ◌∷◌, ◌++◌, length, IfOk, OnOk, OnErr};
+ghost use Rattle.kh_term.specs.declared.tree.TermTree.TheVariants as tree;
+ghost use Rattle.kh_term.specs.WellFormed.{AreTerms};
+ghost use Rattle.kh_term.specs.Make.{list_of, list_with_tail, name_tree, path_tree};
+
+use crate::bytes::{Atom, Bytes};
+use crate::memory::NoMemory;
+use crate::name::{Name, Origin};
+use crate::path::Path;
+use crate::term::{Pairs, Term, Terms};
+use crate::tree::TermTree;
+use sqlite_items::{Boxed, Items};
+use std::alloc::Global;
+
+impl Terms {
+    pub fn new(alloc: Global) -> Terms
+        ensures { result.nodes ≡ [] }
+    {
+        Terms {
+            nodes: Items::new(alloc),
+        }
+    }
+
+    pub fn len(&self) -> usize
+        ensures { result ≡ length self.now.nodes }
+    {
+        self.nodes.len()
+    }
+
+    pub fn as_slice(&self) -> &[TermTree]
+        ensures terms { result.now ≡ self.now.nodes }
+        ensures fit { AreTerms self.now.nodes }
+    {
+        self.nodes.as_slice()
+    }
+
+    /// Adds a term at the end.
+    pub fn push(&mut self, term: Term) -> Result<(), NoMemory>
+        ensures ok { OnOk result (self.new.nodes ≡ self.old.nodes ++ term.node ∷ []) }
+        ensures err { OnErr result (self.new ≡ self.old) }
+    {
+        let Term { node } = term;
+        self.nodes.push(node)?;
+        Ok(())
+    }
+}
+
+#[tactic(auto, using(crate::specs::Lemmas::Fits::terms))]
+pub fn int(number: i128) -> Term
+    ensures { result.node ≡ tree.Int number }
+{
+    Term {
+        node: TermTree::Int(number),
+    }
+}
+
+#[tactic(auto, using(crate::specs::Lemmas::Fits::terms))]
+pub fn atom(text: Atom) -> Term
+    ensures { result.node ≡ tree.Atom text }
+{
+    let _fits = text.as_slice();
+    Term {
+        node: TermTree::Atom(text),
+    }
+}
+
+#[tactic(auto, using(crate::specs::Lemmas::Fits::terms))]
+/// A binary of these bytes.
+pub fn bin(bytes: Bytes) -> Term
+    ensures { result.node ≡ tree.Bin bytes }
+{
+    let _fits = bytes.as_slice();
+    Term {
+        node: TermTree::Bin(bytes),
+    }
+}
+
+#[tactic(auto, using(crate::specs::Lemmas::Fits::terms))]
+pub fn nil() -> Term
+    ensures { result.node ≡ tree.Nil }
+{
+    Term {
+        node: TermTree::Nil,
+    }
+}
+
+#[tactic(auto, using(crate::specs::Lemmas::Fits::terms))]
+pub fn tuple(parts: Terms) -> Term
+    ensures { result.node ≡ tree.Tuple parts.nodes }
+{
+    let Terms { nodes } = parts;
+    Term {
+        node: TermTree::Tuple(nodes),
+    }
+}
+
+#[tactic(auto, using(crate::specs::Lemmas::Fits::terms))]
+/// The list of these terms, nil where there are none.
+pub fn list(alloc: Global, parts: Terms) -> Result<Term, NoMemory>
+    ensures { IfOk result (λ t. t.node ≡ list_of parts.nodes) }
+{
+    let Terms { nodes } = parts;
+    if nodes.is_empty() {
+        return Ok(Term {
+            node: TermTree::Nil,
+        });
+    }
+    let tail = Boxed::new(alloc, TermTree::Nil)?;
+    Ok(Term {
+        node: TermTree::List(nodes, tail),
+    })
+}
+
+/// The list of these terms and a tail, which is a list itself or not; the tail alone where there are no terms.
+#[tactic(auto, using(crate::specs::Lemmas::Fits::terms))]
+pub fn list_with_tail(alloc: Global, parts: Terms, tail: Term) -> Result<Term, NoMemory>
+    ensures { IfOk result (λ t. t.node ≡ list_with_tail parts.nodes tail.node) }
+{
+    let Terms { mut nodes } = parts;
+    if nodes.is_empty() {
+        return Ok(tail);
+    }
+    let Term { node } = tail;
+    match node {
+        TermTree::List(more, tail) => {
+            nodes.append(more)?;
+            Ok(Term {
+                node: TermTree::List(nodes, tail),
+            })
+        }
+        node => {
+            let tail = Boxed::new(alloc, node)?;
+            Ok(Term {
+                node: TermTree::List(nodes, tail),
+            })
+        }
+    }
+}
+
+/// The map of these pairs.
+#[tactic(auto, using(crate::specs::Lemmas::Fits::terms))]
+pub fn map(pairs: Pairs) -> Term
+    ensures { result.node ≡ tree.Map pairs.nodes }
+{
+    let Pairs { nodes } = pairs;
+    Term {
+        node: TermTree::Map(nodes),
+    }
+}
+
+/// The function of this origin with its captured values.
+#[tactic(auto, using(crate::specs::Lemmas::Fits::terms))]
+pub fn closure(origin: Origin, env: Terms) -> Term
+    requires { length env.nodes ≤ origin.arity }
+    ensures { result.node ≡ tree.Closure origin env.nodes }
+{
+    let _module = origin.module.as_slice();
+    let _name = origin.name.as_slice();
+    let Terms { nodes } = env;
+    Term {
+        node: TermTree::Closure(origin, nodes),
+    }
+}
+
+#[tactic(auto, using(crate::specs::Lemmas::Fits::terms))]
+/// The map with this one key.
+pub fn map_of_one(alloc: Global, key: Term, value: Term) -> Result<Term, NoMemory>
+    ensures { IfOk result (λ t. t.node ≡ tree.Map ((key.node, value.node) ∷ [])) }
+{
+    let mut nodes = Items::new(alloc);
+    let Term { node: key } = key;
+    let Term { node: value } = value;
+    nodes.push((key, value))?;
+    Ok(Term {
+        node: TermTree::Map(nodes),
+    })
+}
+
+/// The atom or the binary of a name.
+pub fn term_of_name(alloc: Global, name: &Name) -> Result<Term, NoMemory>
+    ensures { IfOk result (λ t. t.node ≡ name_tree name.now) }
+{
+    match name {
+        Name::Atom(text) => Ok(atom(text.copy(alloc)?)),
+        Name::Bin(bytes) => Ok(bin(bytes.copy(alloc)?)),
+    }
+}
+
+/// The list of the names of a path.
+pub fn path_term(alloc: Global, path: &Path) -> Result<Term, NoMemory>
+    ensures { IfOk result (λ t. t.node ≡ path_tree path.now) }
+{
+    let mut terms = Terms::new(alloc);
+    for name in path.names() {
+        terms.push(term_of_name(alloc, name)?)?;
+    }
+    list(alloc, terms)
+}

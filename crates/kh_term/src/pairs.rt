@@ -1,0 +1,70 @@
+//! The keys and values of a map.
+ghost use Rattle.std.specs.Prelude.{◌≡◌, [], ◌∷◌, ◌++◌, length, if◌then◌else◌, IfOk, OnOk, OnErr, IsTrue};
+ghost use Rattle.kh_term.specs.Lookup.{rises_after};
+ghost use Rattle.kh_term.specs.WellFormed.{ArePairs};
+
+use crate::comparing::tree_cmp;
+use crate::memory::NoMemory;
+use crate::term::{Pairs, Term};
+use crate::tree::TermTree;
+use sqlite_items::Items;
+use std::alloc::Global;
+
+impl Pairs {
+    pub fn new(alloc: Global) -> Pairs
+        ensures { result.nodes ≡ [] }
+    {
+        Pairs {
+            nodes: Items::new(alloc),
+        }
+    }
+
+    pub fn len(&self) -> usize
+        ensures { result ≡ length self.now.nodes }
+    {
+        self.nodes.len()
+    }
+
+    pub fn as_slice(&self) -> &[(TermTree, TermTree)]
+        ensures pairs { result.now ≡ self.now.nodes }
+        ensures fit { ArePairs self.now.nodes }
+    {
+        self.nodes.as_slice()
+    }
+
+    /// Whether a key is above all keys.
+    #[tactic(auto, using(crate::specs::Lemmas::Rising::lasts))]
+    pub fn rises(&self, key: &Term) -> bool
+        ensures { result ≡ rises_after self.now.nodes key.now.node }
+    {
+        match self.nodes.as_slice().last() {
+            None => true,
+            Some(pair) => tree_cmp(&pair.0, &key.node).is_lt(),
+        }
+    }
+
+    /// Adds a key that is above all others, with its value.
+    pub fn push_rising(&mut self, key: Term, value: Term) -> Result<(), NoMemory>
+        requires { IsTrue (rises_after self.old.nodes key.node) }
+        ensures ok { OnOk result (self.new.nodes ≡ self.old.nodes ++ (key.node, value.node) ∷ []) }
+        ensures err { OnErr result (self.new ≡ self.old) }
+    {
+        let Term { node: key } = key;
+        let Term { node: value } = value;
+        self.nodes.push((key, value))?;
+        Ok(())
+    }
+
+    /// Adds a key with its value, where it is above all others. Answers whether it is; else nothing is added.
+    pub fn push(&mut self, key: Term, value: Term) -> Result<bool, NoMemory>
+        ensures answer { IfOk result (λ added. added ≡ rises_after self.old.nodes key.node) }
+        ensures ok { OnOk result (self.new.nodes ≡ (if rises_after self.old.nodes key.node then self.old.nodes ++ (key.node, value.node) ∷ [] else self.old.nodes)) }
+        ensures err { OnErr result (self.new ≡ self.old) }
+    {
+        if !self.rises(&key) {
+            return Ok(false);
+        }
+        self.push_rising(key, value)?;
+        Ok(true)
+    }
+}

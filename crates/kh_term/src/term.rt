@@ -1,0 +1,24 @@
+ghost use Rattle.kh_term.specs.WellFormed.{IsTerm, AreTerms, ArePairs};
+
+use crate::tree::{TermTree, TreePairs, Trees};
+
+/// A term.
+#[derive(Drop)]
+pub struct Term {
+    pub node: TermTree,
+    pub ghost fits: { IsTerm node },
+}
+
+/// Terms, one after another.
+#[derive(Drop)]
+pub struct Terms {
+    pub nodes: Trees,
+    pub ghost fit: { AreTerms nodes },
+}
+
+/// The keys and values of a map, by strictly rising keys.
+#[derive(Drop)]
+pub struct Pairs {
+    pub nodes: TreePairs,
+    pub ghost fit: { ArePairs nodes },
+}

@@ -1,0 +1,29 @@
+use Rattle.std.proofs.Common.{drop, true}
+use Rattle.khepri.specs.Tree.{root}
+use Rattle.khepri.proofs.Serving.{serves_on}
+use Rattle.khepri.proofs.Lines.{some_left}
+use Rattle.khepri.proofs.WholeScript.{at_end, at_fault, at_cut}
+use Rattle.khepri.proofs.plain.plain_session.Goals as goal
+
+pub returns-in-End : goal.returns-in-End
+returns-in-End c = at_end c.args.script.now c.lines.at c.lines.tree c.lines.text.items c.lines.invariant.served (rw c.in-End.is at c.in_ok-form.ensures)
+
+pub returns-in-Fault : goal.returns-in-Fault
+returns-in-Fault c =
+    at_fault c.args.script.now (drop c.lines.at c.args.script.now) c.lines.tree c.lines.text.items c.lines.invariant.served (rw c.in-Fault.is at c.in_ok-form.ensures)
+
+pub returns-in-Unfinished : goal.returns-in-Unfinished
+returns-in-Unfinished c =
+    let line = rw c.in-Unfinished.is at c.in_ok-form.ensures in
+    at_cut c.args.script.now (drop c.lines.at c.args.script.now) c.lines.tree c.lines.text.items c.lines.invariant.served
+    (some_left c.args.script.now c.lines.at line.0) line.1
+
+pub lines-preserved : goal.lines-preserved
+lines-preserved c =
+    let line = rw c.in-Form.is at c.in_ok-form.ensures in
+    let reply = c.in_ok-add_reply-in-Form.ensures in
+    record {
+      within = line.2;
+      served = rw (reply.text, reply.tree) (serves_on true c.args.script.now (drop c.lines.at c.args.script.now) root c.lines.tree c.lines.text.items
+          c.in-Form.form (drop c.in-Form.next c.args.script.now) c.lines.invariant.served line.0);
+    }

@@ -1,0 +1,53 @@
+//! The input comes in pieces.
+ghost use Rattle.std.specs.Prelude.{◌≡◌, ◌<◌, ◌≤◌, length, IfOk, IfErr, OnErr, OnOk};
+ghost use Rattle.kh_io.specs.Told.{Kept};
+ghost use Rattle.khepri.specs.Input.{TakesMore, TakeStops};
+
+use crate::session::Stop;
+use kh_io::Host;
+
+/// How many bytes of a script are read as text.
+pub const SCRIPT_LIMIT: usize = 67_108_864;
+
+/// What came of a further piece of the input.
+#[derive(Clone, Copy, Debug, PartialEq, Eq)]
+pub enum Piece {
+    Some,
+    /// The input has ended.
+    None,
+}
+
+/// Takes a further piece of the input, and puts it at the end of what came before.
+/// A byte past the limit isn't kept.
+pub fn take_more<H: Host>(
+    host: &mut H,
+    input: &mut Vec<u8>,
+    buffer: &mut [u8],
+) -> Result<Piece, Stop>
+    requires some { 0 < length buffer.old }
+    requires short { length input.old.items ≤ SCRIPT_LIMIT }
+    ensures taken { IfOk result (λ piece. TakesMore piece (H.left host.old) (H.left host.new) input.old.items input.new.items) }
+    ensures stops { IfErr result (λ stop. TakeStops stop (H.left host.old) (H.left host.new) input.old.items (H.read_faults host.old) (H.read_faults host.new)) }
+    ensures kept { OnErr result (input.new.items ≡ input.old.items) }
+    ensures no_fault { OnOk result (H.read_faults host.new ≡ H.read_faults host.old) }
+    ensures sink { Kept (H.given host.old) (H.given host.new) }
+    ensures other_faults { H.write_faults host.new ≡ H.write_faults host.old }
+{
+    let room = SCRIPT_LIMIT - input.len();
+    let want = room.min(buffer.len()).max(1);
+    let (front, _) = buffer.split_at_mut(want);
+    let Ok(count) = host.take(front) else {
+        return Err(Stop::ReadFault);
+    };
+    if count == 0 {
+        return Ok(Piece::None);
+    }
+    if room == 0 {
+        return Err(Stop::TooLong);
+    }
+    let (piece, _) = front.split_at(count);
+    match input.extend_from_slice(piece) {
+        Ok(()) => Ok(Piece::Some),
+        Err(_) => Err(Stop::NoMemory),
+    }
+}

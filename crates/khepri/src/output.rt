@@ -1,0 +1,25 @@
+//! Replies on their way out.
+ghost use Rattle.std.specs.Prelude.{◌≡◌, ◌≤◌, List, length, take, OnOk, OnErr};
+ghost use Rattle.kh_io.specs.Told.{Kept, Told, Extends, IsFrontOf, Rose};
+ghost use Rattle.khepri.specs.Output.{GivesAll};
+
+use kh_io::{Failed, Host};
+
+/// Gives a piece whole, in as many calls as the sink wants.
+pub fn give_all<H: Host>(host: &mut H, piece: &[u8]) -> Result<(), Failed>
+    ensures given { OnOk result (GivesAll (H.given host.old) (H.given host.new) piece.now) }
+    ensures front { OnErr result (Extends (H.given host.old) (H.given host.new) (λ more. IsFrontOf more piece.now)) }
+    ensures fault { OnErr result (Rose (H.write_faults host.old) (H.write_faults host.new)) }
+    ensures no_fault { OnOk result (H.write_faults host.new ≡ H.write_faults host.old) }
+    ensures faults_stand { H.write_faults host.old ≤ H.write_faults host.new }
+    ensures input { Kept (H.left host.old) (H.left host.new) }
+    ensures other_faults { H.read_faults host.new ≡ H.read_faults host.old }
+{
+    let mut rest = piece;
+    while !rest.is_empty() {
+        let taken = host.give(rest)?;
+        let (_, after) = rest.split_at(taken);
+        rest = after;
+    }
+    Ok(())
+}

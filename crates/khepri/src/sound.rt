@@ -1,0 +1,21 @@
+//! The top call over a host that never fails.
+ghost use Rattle.std.specs.Prelude.{◌≡◌, ◌≢◌, ◌↔◌, false, IsTrue};
+ghost use Rattle.khepri.specs.Words.{are_right};
+ghost use Rattle.khepri.specs.Run.{TellsEnding};
+ghost use Rattle.khepri.specs.Sound.{IsZero};
+
+use crate::top::khepri;
+use kh_io::Host;
+use std::alloc::Global;
+
+/// The status of a script over a host whose counts of faults are always 0.
+pub fn answer_soundly<H: Host>(alloc: Global, words: &[String], host: &mut H) -> u8
+    requires reads { IsZero H.read_faults }
+    requires writes { IsZero H.write_faults }
+    ensures no_read_fault { result ≢ 3 }
+    ensures no_write_fault { result ≢ 4 }
+    ensures status { IsTrue (are_right words.now) → TellsEnding result (H.left host.old) (H.left host.new) (H.given host.old) (H.given host.new) }
+    ensures words { (result ≡ 7) ↔ (are_right words.now ≡ false) }
+{
+    khepri(alloc, words, host)
+}
