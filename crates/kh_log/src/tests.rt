@@ -131,8 +131,9 @@ fn append_two<H: Host>(alloc: Global, host: &mut H) -> Result<(), LogError> {
     log.append(host, &second)
 }
 
-// How many records stand in file 1 of the crash image after so many calls.
+// How many records stand in file 1 of the crash image after so many calls; they are read and are the first of `ab` and `c`.
 fn count_in_image(
+    rt: &impl Abort,
     alloc: Global,
     host: &MemoryHost,
     calls: u64,
@@ -143,10 +144,26 @@ fn count_in_image(
     }
     let files = host.image(calls, fill)?;
     let mut again = MemoryHost::new(alloc, Vec::new(alloc), files, Vec::new(alloc), ROOM)?;
-    match count(&mut again) {
-        Ok(n) => Ok(n),
-        Err(_) => Err(Fail::from("the image is not a log")),
-    }
+    let records = count(&mut again)?;
+    let (first, second, ended) = read_two(alloc, &mut again)?;
+    assert_eq!(rt;
+        held(&first),
+        if records < 1 {
+            b"none".as_slice()
+        } else {
+            b"ab"
+        }
+    );
+    assert_eq!(rt;
+        held(&second),
+        if records < 2 {
+            b"none".as_slice()
+        } else {
+            b"c"
+        }
+    );
+    assert_eq!(rt; ended, true);
+    Ok(records)
 }
 
 fn check_image(
@@ -157,9 +174,9 @@ fn check_image(
     want: &[u64; 3],
 ) -> Result<(), Fail> {
     let got = [
-        count_in_image(alloc, host, calls, None)?,
-        count_in_image(alloc, host, calls, Some(0))?,
-        count_in_image(alloc, host, calls, Some(0xa5))?,
+        count_in_image(rt, alloc, host, calls, None)?,
+        count_in_image(rt, alloc, host, calls, Some(0))?,
+        count_in_image(rt, alloc, host, calls, Some(0xa5))?,
     ];
     assert_eq!(rt; &got, want);
     Ok(())
