@@ -1,0 +1,6 @@
+pub mod Records
+pub mod Append
+pub mod Writes
+pub mod Opening
+pub mod Headers
+pub mod Walk

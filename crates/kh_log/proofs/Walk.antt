@@ -1,0 +1,264 @@
+-- A walk from gate to gate, and what a file holds once it ends.
+use Rattle.std.proofs.Common.{◌≡◌, ℕ, zero, suc, ◌+◌, ◌<◌, ◌≤◌, List, [], ◌∷◌, ◌++◌, length, take, drop, Option, Some, None, refl, sym, ap, subst, inl, inr, ◌∙◌, arith, append_assoc, length-append, length-drop, length-take}
+use Rattle.std.specs.Prelude.{IfSome, IsSome, slice_get}
+use Rattle.std.proofs.lemmas.List.{drop_at, take_at, drop-drop}
+use Rattle.std.proofs.lemmas.Bool.{cases_lt}
+use Rattle.kh_io.specs.declared.files.Files.{Files}
+use Rattle.kh_io.specs.Told.{Told, Kept}
+use Rattle.kh_io.specs.Disk.{Stays, FilesStay, LeavesOnly}
+use Rattle.kh_io.proofs.Moments.{both, images_stay}
+use Rattle.kh_io.proofs.Telling.{told_both, told_map, kept_both}
+use Rattle.kh_log.specs.Records.{open_gate, length_of, Content, content_from, records_of, lacking_in, span, IsClosedAt, IsOpenAt, LacksAt, record_at}
+use Rattle.kh_log.specs.Log.{Place, Holds, passed, EndsAt, Reading}
+use Rattle.kh_log.proofs.Records.{behind_records, length_of-append, Front, with_records, with_records-is, content_of-front, content_of-short, nothing_behind, more_behind, lacking_step, front-append, length-front}
+use Rattle.kh_log.proofs.Append.{ends_at}
+
+-- at this place, behind this many whole records, there is a gate
+pub record Stands (at count : ℕ) (bytes : List ℕ) : Type 0 where
+  pub rs : List (List ℕ)
+  pub front : List ℕ
+  pub rest : List ℕ
+  pub split : bytes ≡ front ++ rest
+  pub records : Front rs front
+  pub place : length front ≡ at
+  pub counted : count ≡ length rs
+  pub some : 1 ≤ length rest
+
+pub stands_start : (bytes : List ℕ) → 2 ≤ length bytes → Stands 0 0 bytes
+stands_start bytes long =
+    let b = nothing_behind bytes (omega (arith, long)) in
+    record { rs = []; front = b.front; rest = b.rest; split = b.split; records = b.records; place = length-front [] b.front b.records; counted = refl; some = b.some }
+
+rest_is : (at count : ℕ) (bytes : List ℕ) (s : Stands at count bytes) → drop at bytes ≡ s.rest
+rest_is at count bytes s = ap (drop at) s.split ∙ drop_at s.front s.rest at s.place
+
+pub stands_next : (at count after : ℕ) (bytes : List ℕ) → Stands at count bytes → IsOpenAt at after bytes → Stands after (count + 1) bytes
+stands_next at count after bytes s o =
+    let b = more_behind o.behind [] o.enough (nothing_behind (drop (4 + length_of o.behind) o.behind) (omega (arith, o.enough, length-drop (4 + length_of o.behind) o.behind))) in
+    let r = take (length_of o.behind) (drop 4 o.behind) in
+    let len : length r ≡ length_of o.behind = omega (arith, length-take (length_of o.behind) (drop 4 o.behind), length-drop 4 o.behind, o.enough) in
+    record {
+      rs = s.rs ++ r ∷ [];
+      front = s.front ++ b.front;
+      rest = b.rest;
+      split = s.split ∙ ap (λ (l : List ℕ). s.front ++ l) (sym (rest_is at count bytes s) ∙ o.there ∙ b.split) ∙ sym (append_assoc s.front b.front b.rest);
+      records = front-append s.rs (r ∷ []) s.front b.front s.records b.records;
+      place = omega (arith, s.place, length-append s.front b.front, length-front (r ∷ []) b.front b.records, len, o.next);
+      counted = omega (arith, s.counted, length-append s.rs (r ∷ []));
+      some = b.some;
+    }
+
+pub stands_closed : (at count : ℕ) (bytes : List ℕ) → Stands at count bytes → IsClosedAt at bytes → EndsAt at (records_of bytes) bytes × (count ≡ length (records_of bytes))
+stands_closed at count bytes s closed =
+    let e = ends_at at s.rs bytes (record {
+      front = s.front;
+      gate = closed.gate;
+      tail = closed.behind;
+      is = s.split ∙ ap (λ (l : List ℕ). s.front ++ l) (sym (rest_is at count bytes s) ∙ closed.there);
+      records = s.records;
+      place = s.place;
+      closed = closed.closed;
+    }) in
+    let are : s.rs ≡ records_of bytes = sym (ap (λ (c : Content). c.records) e.content) in
+    (subst (λ (l : List (List ℕ)). EndsAt at l bytes) are e, s.counted ∙ ap length are)
+
+pub stands_lacks : (at count : ℕ) (bytes : List ℕ) → Stands at count bytes → 2 ≤ length bytes → LacksAt at bytes → lacking_in bytes ≡ Some (at + 1)
+stands_lacks at count bytes s long lacks =
+    let from = content_of-front s.rs s.front s.rest s.records s.some (subst (λ (l : List ℕ). 2 ≤ length l) s.split long) in
+    ap (λ (l : List ℕ). lacking_in l) s.split ∙ ap (λ (c : Content). c.lacking) (from.1
+    ∙ ap (λ (l : List ℕ). with_records s.rs (content_from (suc from.0) (span s.rs) l)) (sym (rest_is at count bytes s) ∙ lacks.there)
+    ∙ ap (with_records s.rs) (lacking_step from.0 (span s.rs) lacks.behind lacks.short)
+    ∙ with_records-is s.rs (record { records = []; lacking = Some (span s.rs + 1) }))
+    ∙ ap (λ k. Some (k + 1)) (sym (length-front s.rs s.front s.records) ∙ s.place)
+
+-- a file that is told is at its first gate
+pub told_start : (o : Option (List ℕ)) (len : ℕ) → 2 ≤ len → IfSome o (λ bytes. length bytes ≡ len) → Told o o (λ was now. (now ≡ was) × Stands 0 0 was)
+told_start (Some a) len long is = (refl, stands_start a (omega (arith, long, is)))
+told_start None len long is = tt
+
+pub still_long : (old new : Option (List ℕ)) (len : ℕ) → Kept old new → IfSome old (λ bytes. length bytes ≡ len) → IfSome new (λ bytes. length bytes ≡ len)
+still_long (Some a) (Some b) len same holds = ap length same ∙ holds
+still_long None (Some b) len same holds = absurd same
+still_long old None len same holds = tt
+
+-- one step of a walk
+pub walked : (a b c : Option (List ℕ)) (at count after : ℕ) → Told a b (λ was now. (now ≡ was) × Stands at count was) → Kept b c
+    → Told b c (λ was _. IsOpenAt at after was) → Told a c (λ was now. (now ≡ was) × Stands after (count + 1) was)
+walked (Some x) (Some y) (Some z) at count after p same o = (same ∙ p.0, stands_next at count after x p.1 (subst (IsOpenAt at after) p.0 o))
+walked None (Some y) (Some z) at count after p same o = absurd p
+walked a None (Some z) at count after p same o = absurd o
+walked (Some x) b None at count after p same o = tt
+walked None b None at count after p same o = tt
+
+-- reads, one after the other
+pub read_both : {seen seen' : ℕ → Option (List ℕ)} {image image' : ℕ → List ℕ → Type 0} {m0 m1 m2 given given' : ℕ} {past mid since : ℕ → Files → ℕ → Type 0}
+    → FilesStay seen seen' image image' → given' ≡ given → LeavesOnly m0 m1 past mid (Reading image given) → LeavesOnly m1 m2 mid since (Reading image' given')
+    → LeavesOnly m0 m2 past since (Reading image given)
+read_both stay same first second = both first second (λ files s left. record { images = images_stay stay files left.images; stamp = left.stamp ∙ same })
+
+-- the end of a walk, at a closed gate
+pub told_closed : (a b c : Option (List ℕ)) (at count : ℕ) → Told a b (λ was now. (now ≡ was) × Stands at count was) → Told b c (λ was _. IsClosedAt at was)
+    → Told a c (λ was _. EndsAt at (records_of was) was × (count ≡ length (records_of was)))
+told_closed a b c at count first second = told_both a b c first second (λ x y z p q.
+    stands_closed at count x p.1 (subst (IsClosedAt at) p.0 q))
+
+-- and at a record that lacks bytes
+pub told_lacks : (a b c : Option (List ℕ)) (at count len : ℕ) → 2 ≤ len → IfSome b (λ bytes. length bytes ≡ len) → Told a b (λ was now. (now ≡ was) × Stands at count was) → Told b c (λ was _. LacksAt at was)
+    → Told a c (λ was _. lacking_in was ≡ Some (at + 1))
+told_lacks (Some x) (Some y) (Some z) at count len long is p q =
+    stands_lacks at count x p.1 (omega (arith, long, is, ap length p.0)) (subst (LacksAt at) p.0 q)
+told_lacks None (Some y) (Some z) at count len long is p q = absurd p
+told_lacks a None (Some z) at count len long is p q = absurd q
+told_lacks (Some x) b None at count len long is p q = tt
+told_lacks None b None at count len long is p q = tt
+
+pub kept_same : {A : Type 0} (o : Option A) → Kept o o
+kept_same (Some a) = refl
+kept_same None = tt
+
+pub files_same : (seen : ℕ → Option (List ℕ)) (image : ℕ → List ℕ → Type 0) → FilesStay seen seen image image
+files_same seen image file lt = record { read = kept_same (seen file); only = λ bytes left. left; all = λ told bytes left. left }
+
+pub stays_both : {a b c : Option (List ℕ)} {i j k : List ℕ → Type 0} → Stays a b i j → Stays b c j k → Stays a c i k
+stays_both {a} {b} {c} first second = record {
+  read = kept_both a b c first.read second.read;
+  only = λ bytes left. first.only bytes (second.only bytes left);
+  all = λ told bytes left. second.all told bytes (first.all (told_too b c second.read told) bytes left);
+}
+  where
+    told_too : (b c : Option (List ℕ)) → Kept b c → IsSome c → IsSome b
+    told_too (Some x) c kept told = refl
+    told_too None (Some y) kept told = absurd kept
+    told_too None None kept told = told
+
+-- a file of fewer than 2 bytes has no record
+pub told_short : (a b : Option (List ℕ)) (len : ℕ) → len < 2 → Told a b (λ bytes _. len ≡ length bytes)
+    → Told a b (λ was _. (lacking_in was ≡ None) × (0 ≡ span (records_of was)) × (0 ≡ length (records_of was)))
+told_short a b len short told = told_map a b told (λ x y is.
+    let none = content_of-short x (omega (arith, is, short)) in
+    (ap (λ (c : Content). c.lacking) none, sym (ap (λ (c : Content). span c.records) none), sym (ap (λ (c : Content). length c.records) none)))
+
+-- two facts of a file that stays
+pub told_again : {P Q R : List ℕ → Type 0} (a b c : Option (List ℕ)) → Kept a b → Told a b (λ was _. P was) → Told b c (λ was _. Q was)
+    → ((was : List ℕ) → P was → Q was → R was) → Told a c (λ was _. R was)
+told_again {P} {Q} {R} (Some x) (Some y) (Some z) same p q is = is x p (subst Q same q)
+told_again None (Some y) (Some z) same p q is = absurd p
+told_again a None (Some z) same p q is = absurd q
+told_again (Some x) b None same p q is = tt
+told_again None b None same p q is = tt
+
+-- The record of this number of a log, behind its gate.
+pub record Nth (rs : List (List ℕ)) (k at : ℕ) (bytes : List ℕ) : Type 0 where
+  pub bytes_of : List ℕ
+  pub opened : IsOpenAt at (at + 5 + length bytes_of) bytes
+  pub is : record_at at bytes ≡ bytes_of
+  pub got : slice_get rs k ≡ Some bytes_of
+  pub more : span (take (k + 1) rs) ≡ span (take k rs) + 5 + length bytes_of
+  pub least : span (take (k + 1) rs) ≤ span rs
+
+first_record : (h r rest : List ℕ) (rs : List (List ℕ)) → length h ≡ 4 → length_of h ≡ length r → 1 ≤ length rest → Nth (r ∷ rs) 0 0 (open_gate ∷ (h ++ (r ++ rest)))
+first_record h r rest rs four len some =
+    let behind = h ++ (r ++ rest) in
+    let is : length_of behind ≡ length r = length_of-append h (r ++ rest) four ∙ len in
+    let body : drop 4 behind ≡ r ++ rest = drop_at h (r ++ rest) 4 four in
+    record {
+      bytes_of = r;
+      opened = record {
+        behind = behind;
+        there = refl;
+        enough = omega (arith, is, four, length-append h (r ++ rest), length-append r rest, some);
+        next = omega (arith, is);
+      };
+      is = ap (λ n. take n (drop 4 behind)) is ∙ ap (take (length r)) body ∙ take_at r rest (length r) refl;
+      got = refl;
+      more = omega arith;
+      least = omega arith;
+    }
+
+later_record : (h r rest : List ℕ) (rs : List (List ℕ)) (k at : ℕ) → length h ≡ 4 → Nth rs k at rest → at ≡ span (take k rs)
+    → Nth (r ∷ rs) (suc k) (5 + length r + at) (open_gate ∷ (h ++ (r ++ rest)))
+later_record h r rest rs k at four n place =
+    let all = open_gate ∷ (h ++ (r ++ rest)) in
+    let split : all ≡ (open_gate ∷ (h ++ r)) ++ rest = ap (λ (l : List ℕ). open_gate ∷ l) (sym (append_assoc h r rest)) in
+    let long : length (open_gate ∷ (h ++ r)) ≡ 5 + length r = omega (arith, four, length-append h r) in
+    let whole : drop (5 + length r) all ≡ rest = ap (drop (5 + length r)) split ∙ drop_at (open_gate ∷ (h ++ r)) rest (5 + length r) long in
+    let step : span (take (suc k + 1) (r ∷ rs)) ≡ span (r ∷ take (k + 1) rs) = let e : suc k + 1 ≡ suc (k + 1) = omega arith in ap (λ m. span (take m (r ∷ rs))) e in
+    let shift : (i j : ℕ) → j ≡ 5 + length r + i → drop j all ≡ drop i rest = λ i j e. ap (λ m. drop m all) e ∙ sym (drop-drop i (5 + length r) all) ∙ ap (drop i) whole in
+    record {
+      bytes_of = n.bytes_of;
+      opened = record { behind = n.opened.behind; there = shift at (5 + length r + at) refl ∙ n.opened.there; enough = n.opened.enough; next = omega (arith, n.opened.next) };
+      is = ap (λ (l : List ℕ). take (length_of l) (drop (5 + length r + at + 5) all)) (shift (at + 1) (5 + length r + at + 1) (omega arith))
+          ∙ ap (take (length_of (drop (at + 1) rest))) (shift (at + 5) (5 + length r + at + 5) (omega arith)) ∙ n.is;
+      got = n.got;
+      more = omega (arith, n.more, step);
+      least = omega (arith, n.least, step);
+    }
+
+pub nth : (rs : List (List ℕ)) (front rest : List ℕ) (k : ℕ) → Front rs front → 1 ≤ length rest → k < length rs → Nth rs k (span (take k rs)) (front ++ rest)
+unfolding Front
+nth [] front rest k is some lt = absurd (omega (arith, lt))
+nth (r ∷ rs) front rest zero (h, more, is, four, len, behind) some lt =
+    let same : front ++ rest ≡ open_gate ∷ (h ++ (r ++ (more ++ rest))) =
+    ap (λ (l : List ℕ). l ++ rest) is ∙ ap (λ (l : List ℕ). open_gate ∷ l) (append_assoc h (r ++ more) rest ∙ ap (λ (l : List ℕ). h ++ l) (append_assoc r more rest)) in
+    subst (Nth (r ∷ rs) 0 0) (sym same) (first_record h r (more ++ rest) rs four len (omega (arith, some, length-append more rest)))
+nth (r ∷ rs) front rest (suc k) (h, more, is, four, len, behind) some lt =
+    let same : front ++ rest ≡ open_gate ∷ (h ++ (r ++ (more ++ rest))) =
+    ap (λ (l : List ℕ). l ++ rest) is ∙ ap (λ (l : List ℕ). open_gate ∷ l) (append_assoc h (r ++ more) rest ∙ ap (λ (l : List ℕ). h ++ l) (append_assoc r more rest)) in
+    subst (Nth (r ∷ rs) (suc k) (5 + length r + span (take k rs))) (sym same)
+    (later_record h r (more ++ rest) rs k (span (take k rs)) four (nth rs more rest k behind some (omega (arith, lt))) refl)
+
+-- the next record of a log that has one
+pub next_record : (log : Place) (bytes : List ℕ) → Holds log bytes → log.read < log.records → Nth (records_of bytes) log.read log.next bytes
+next_record log bytes holds lt =
+    let some : 1 ≤ length bytes = elim (cases_lt (length bytes) 1) [
+      | inl none ↦ absurd (omega (arith, lt, holds.records, ap (λ (c : Content). length c.records) (content_of-short bytes (omega (arith, none)))))
+      | inr some ↦ some
+    ] in
+    let b = behind_records bytes some in
+    subst (λ n. Nth (records_of bytes) log.read n bytes) (sym holds.next)
+    (subst (Nth (records_of bytes) log.read (span (take log.read (records_of bytes)))) (sym b.split)
+    (nth (records_of bytes) b.front b.rest log.read b.records b.some (omega (arith, lt, holds.records))))
+
+-- and the log once it was read
+pub holds_passed : (log : Place) (bytes r : List ℕ) → Holds log bytes → log.read < log.records → r ≡ record_at log.next bytes → Holds (passed log r) bytes
+holds_passed log bytes r holds lt is =
+    let n = next_record log bytes holds lt in
+    record {
+      none_lacks = holds.none_lacks;
+      records = holds.records;
+      last = holds.last;
+      read = omega (arith, lt);
+      next = omega (arith, holds.next, n.more, ap length (is ∙ n.is));
+    }
+
+next_ends : (log : Place) (was : List ℕ) (holds : Holds log was) (lt : log.read < log.records) → log.next + 5 + length (next_record log was holds lt).bytes_of ≤ log.last
+next_ends log was holds lt =
+    let n = next_record log was holds lt in
+    omega (arith, n.more, n.least, holds.next, holds.last)
+
+-- what was read where the record ends in time
+pub read_next : (log : Place) (r : List ℕ) (a b : Option (List ℕ)) → IfSome a (Holds log) → log.read < log.records
+    → Told a b (λ was _. (after : ℕ) → IsOpenAt log.next after was → after ≤ log.last → r ≡ record_at log.next was)
+    → Told a b (λ was _. slice_get (records_of was) log.read ≡ Some r)
+read_next log r (Some x) (Some y) holds lt told =
+    let n = next_record log x holds lt in
+    n.got ∙ ap (λ (l : List ℕ). Some l) (sym (told (log.next + 5 + length n.bytes_of) n.opened (next_ends log x holds lt) ∙ n.is))
+read_next log r None (Some y) holds lt told = absurd told
+read_next log r a None holds lt told = tt
+
+pub read_lacks : (log : Place) (a b : Option (List ℕ)) → IfSome a (Holds log) → log.read < log.records
+    → Told a b (λ was _. (after : ℕ) → IsOpenAt log.next after was → after ≤ log.last → ⊥) → Told a b (λ _ _. ⊥)
+read_lacks log (Some x) (Some y) holds lt told =
+    let n = next_record log x holds lt in
+    told (log.next + 5 + length n.bytes_of) n.opened (next_ends log x holds lt)
+read_lacks log None (Some y) holds lt told = absurd told
+read_lacks log a None holds lt told = tt
+
+pub read_holds : (log : Place) (r : List ℕ) (a b : Option (List ℕ)) → Kept a b → IfSome a (Holds log) → log.read < log.records
+    → Told a b (λ was _. (after : ℕ) → IsOpenAt log.next after was → after ≤ log.last → r ≡ record_at log.next was)
+    → IfSome b (Holds (passed log r))
+read_holds log r (Some x) (Some y) same holds lt told =
+    let n = next_record log x holds lt in
+    subst (Holds (passed log r)) (sym same) (holds_passed log x r holds lt (told (log.next + 5 + length n.bytes_of) n.opened (next_ends log x holds lt)))
+read_holds log r None (Some y) same holds lt told = absurd told
+read_holds log r a None same holds lt told = tt

@@ -1,0 +1,91 @@
+-- A log that is open: where it stands in its file, and what an append leaves.
+use Rattle.std.specs.Prelude.{◌≡◌, ◌≢◌, ◌⊎◌, ℕ, ◌+◌, ◌<◌, ◌≤◌, List, ◌∷◌, ◌++◌, length, take, Option, None, IfSome}
+use Rattle.kh_io.specs.declared.files.Files.{Files}
+use Rattle.kh_io.specs.Disk.{file_of, Torn, AreImages}
+use Rattle.kh_log.specs.Records.{open_gate, log_of, Content, content_of, records_of, lacking_in, span, IsClosedAt}
+
+-- where a log stands in its file
+pub record Place : Type 0 where
+  pub file : ℕ
+  -- how many records it has, and how many of them were read
+  pub records : ℕ
+  pub read : ℕ
+  -- the places of the gate of the next record, and of the last gate
+  pub next : ℕ
+  pub last : ℕ
+
+-- these bytes are the log that stands so: what its calls found or left
+pub record Holds (log : Place) (bytes : List ℕ) : Type 0 where
+  pub none_lacks : lacking_in bytes ≡ None
+  pub records : log.records ≡ length (records_of bytes)
+  pub last : log.last ≡ span (records_of bytes)
+  pub read : log.read ≤ log.records
+  pub next : log.next ≡ span (take log.read (records_of bytes))
+
+-- the place after these records were appended
+abbrev pub moved : Place → List (List ℕ) → Place
+moved log rs = record {
+  file = log.file;
+  records = log.records + length rs;
+  read = log.read + length rs;
+  next = log.last + span rs;
+  last = log.last + span rs;
+}
+
+-- the place after this record was read
+abbrev pub passed : Place → List ℕ → Place
+passed log r = record {
+  file = log.file;
+  records = log.records;
+  read = log.read + 1;
+  next = log.next + 5 + length r;
+  last = log.last;
+}
+
+-- the log of a file that holds these records and no more, all of which count as read
+abbrev pub begun_at : ℕ → List (List ℕ) → Place
+begun_at file rs = record { file = file; records = length rs; read = length rs; next = span rs; last = span rs }
+
+-- each image of a file that is told
+abbrev pub ImagesAre : Option (List ℕ) → (List ℕ → Type 0) → (List ℕ → Type 0) → Type 0
+ImagesAre seen image P = IfSome seen (λ _. (bytes : List ℕ) → image bytes → P bytes)
+
+-- exactly these records, and none that lacks bytes
+abbrev pub whole : List (List ℕ) → Content
+whole rs = record { records = rs; lacking = None }
+
+-- exactly these records, and behind them a closed gate at this place
+pub record EndsAt (last : ℕ) (rs : List (List ℕ)) (bytes : List ℕ) : Type 0 where
+  pub content : content_of bytes ≡ whole rs
+  pub place : last ≡ span rs
+  pub gate : IsClosedAt last bytes
+
+-- these records, or these and more behind them
+abbrev pub IsBeforeOrAfter : (rs more : List (List ℕ)) → List ℕ → Type 0
+IsBeforeOrAfter rs more bytes = (content_of bytes ≡ whole rs) ⊎ (content_of bytes ≡ whole (rs ++ more))
+
+-- What a crash while records are appended may leave: in the log's file these from before or all of them, each other file as a crash before
+-- might have left it, and the stamp as it was.
+pub record Appending (file : ℕ) (image : ℕ → List ℕ → Type 0) (given : ℕ) (rs more : List (List ℕ)) (files : Files) (s : ℕ) : Type 0 where
+  pub records : IsBeforeOrAfter rs more (file_of files file)
+  pub others : (other : ℕ) → other < 4 → other ≢ file → image other (file_of files other)
+  pub stamp : s ≡ given
+
+-- What a crash while n bytes are written at a place may leave: of the file any outcome of that write, each other file as a crash before
+-- might have left it, and the stamp as it was.
+pub record Writing (file : ℕ) (image : ℕ → List ℕ → Type 0) (given at n : ℕ) (files : Files) (s : ℕ) : Type 0 where
+  pub was : List ℕ
+  pub left : image file was
+  pub torn : Torn at n was (file_of files file)
+  pub others : (other : ℕ) → other < 4 → other ≢ file → image other (file_of files other)
+  pub stamp : s ≡ given
+
+-- these bytes are what stands behind the first gate of the log of these records
+pub record IsGroup (rs : List (List ℕ)) (bytes : List ℕ) : Type 0 where
+  pub are : rs ≡ records_of (open_gate ∷ bytes)
+  pub log : log_of rs ≡ open_gate ∷ bytes
+
+-- what a crash while a file is read may leave: what it might have left before, with the stamp as it was
+pub record Reading (image : ℕ → List ℕ → Type 0) (given : ℕ) (files : Files) (s : ℕ) : Type 0 where
+  pub images : AreImages image files
+  pub stamp : s ≡ given
