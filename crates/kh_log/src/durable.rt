@@ -50,6 +50,7 @@ pub(crate) fn open_behind<D: Disk>(
     ensures appended { OnOk result (Told (D.seen disk.old file) (D.seen disk.new file) (λ was now.
         (rs more : List (List ℕ)) → IsGroup more bytes.now → EndsAt last rs was → EndsAt (last + length bytes.now) (rs ++ more) now)) }
     ensures safe { OnOk result (IsSafe (D.seen disk.new file) (D.image disk.new file)) }
+    ensures told { Told (D.seen disk.old file) (D.seen disk.new file) (λ _ _. Unit {0}) }
     ensures images { (rs more : List (List ℕ)) → IsGroup more bytes.now → ((was : List ℕ) → D.image disk.old file was → EndsAt last rs was)
         → (left : List ℕ) → D.image disk.new file left → IsBeforeOrAfter rs more left }
     ensures any_moment { (rs more : List (List ℕ)) → IsGroup more bytes.now → ((was : List ℕ) → D.image disk.old file was → EndsAt last rs was)

@@ -86,6 +86,7 @@ impl Log {
         ensures any_moment { LeavesOnly (H.moment host.old) (H.moment host.new) (H.left_since host.old) (H.left_since host.new) (Reading (H.image host.old) (H.stamp host.old)) }
         ensures fault { IsErrOf result LogError.DiskFault → Rose (H.disk_faults host.old) (H.disk_faults host.new) }
         ensures no_fault { OnOk result (H.disk_faults host.new ≡ H.disk_faults host.old) }
+        ensures no_fault_lacking { (o : ℕ) → IsErrOf result (LogError.NotALog o) → H.disk_faults host.new ≡ H.disk_faults host.old }
         ensures faults_stand { H.disk_faults host.old ≤ H.disk_faults host.new }
         ensures stamp { H.stamp host.new ≡ H.stamp host.old }
         ensures input { Kept (H.left host.old) (H.left host.new) }
@@ -138,6 +139,7 @@ impl Log {
         ensures any_moment { LeavesOnly (H.moment host.old) (H.moment host.new) (H.left_since host.old) (H.left_since host.new) (Reading (H.image host.old) (H.stamp host.old)) }
         ensures fault { IsErrOf result LogError.DiskFault → Rose (H.disk_faults host.old) (H.disk_faults host.new) }
         ensures no_fault { OnOk result (H.disk_faults host.new ≡ H.disk_faults host.old) }
+        ensures no_fault_lacking { (o : ℕ) → IsErrOf result (LogError.NotALog o) → H.disk_faults host.new ≡ H.disk_faults host.old }
         ensures faults_stand { H.disk_faults host.old ≤ H.disk_faults host.new }
         ensures stamp { H.stamp host.new ≡ H.stamp host.old }
         ensures input { Kept (H.left host.old) (H.left host.new) }
@@ -165,6 +167,7 @@ impl Log {
         ensures left { OnOk result (IfSome (H.seen host.new self.old.file) (Holds self.new)) }
         ensures safe { OnOk result (IsSafe (H.seen host.new self.old.file) (H.image host.new self.old.file)) }
         ensures moved { OnOk result (self.new ≡ moved self.old r.now) }
+        ensures told { Told (H.seen host.old self.old.file) (H.seen host.new self.old.file) (λ _ _. Unit {0}) }
         ensures failed { OnErr result (self.new ≡ self.old) }
         // A crash at any moment of the call leaves the records from before it, with the new ones or without.
         ensures any_moment { (rs : List (List ℕ)) → ((bytes : List ℕ) → H.image host.old self.old.file bytes → EndsAt self.old.last rs bytes)
