@@ -1,10 +1,14 @@
 -- A piece that is given in several calls.
-use Rattle.std.proofs.Common.{◌≡◌, ℕ, List, [], ◌++◌, take, drop, Option, Some, None, refl, sym, ap, subst, ◌∙◌, append_assoc}
+use Rattle.std.proofs.Common.{◌≡◌, ℕ, ◌≤◌, List, [], ◌++◌, take, drop, Option, Some, None, refl, sym, ap, subst, ◌∙◌, append_assoc, arith}
 use Rattle.std.proofs.lemmas.List.{take-append-drop, append-nil}
 use Rattle.kh_io.specs.Told.{Kept, Extends, IsFrontOf}
 use Rattle.kh_io.specs.Host.{Adds, MayAdd}
+use Rattle.kh_io.specs.declared.files.Files.{Files}
+use Rattle.kh_io.specs.Disk.{AreImages, FilesStay, Elapses, LeavesOnly}
+use Rattle.kh_io.proofs.Moments.{started, goes_on, weakened, images_stay}
+use Rattle.kh_io.proofs.Telling.{told_both}
 use Rattle.khepri.specs.Output.{GivesAll}
-use Rattle.khepri.proofs.Told.{told_then}
+use Rattle.khepri.specs.Session.{Untouched}
 
 -- a front of the piece is given, and this is left
 pub record IsGiving (old now : Option (List ℕ)) (piece rest : List ℕ) : Type 0 where
@@ -21,7 +25,7 @@ pub giving_goes_on : (old now new : Option (List ℕ)) (piece rest : List ℕ) (
 giving_goes_on old now new piece rest n giving adds = record {
   front = giving.front ++ take n rest;
   parts = giving.parts ∙ ap (λ (r : List ℕ). giving.front ++ r) (sym (take-append-drop n rest)) ∙ sym (append_assoc giving.front (take n rest) (drop n rest));
-  given = told_then _ _ _ old now new (λ x y z p q. q ∙ ap (λ (t : List ℕ). t ++ take n rest) p ∙ append_assoc x giving.front (take n rest)) giving.given adds;
+  given = told_both old now new giving.given adds (λ x y z p q. q ∙ ap (λ (t : List ℕ). t ++ take n rest) p ∙ append_assoc x giving.front (take n rest));
 }
 
 pub giving_ends : (old now : Option (List ℕ)) (piece rest : List ℕ) → IsGiving old now piece rest → rest ≡ [] → GivesAll old now piece
@@ -31,17 +35,22 @@ giving_ends old now piece rest giving none =
 pub giving_fails : (old now new : Option (List ℕ)) (piece rest : List ℕ) → IsGiving old now piece rest → MayAdd now new rest
     → Extends old new (λ more. IsFrontOf more piece)
 giving_fails old now new piece rest giving may =
-    told_then _ _ _ old now new (λ x y z p q. (
+    told_both old now new giving.given may (λ x y z p q. (
       giving.front ++ q.0,
       q.1 ∙ ap (λ (t : List ℕ). t ++ q.0) p ∙ append_assoc x giving.front q.0,
       (q.2.0, giving.parts ∙ ap (λ (r : List ℕ). giving.front ++ r) q.2.1 ∙ sym (append_assoc giving.front q.0 q.2.0)),
     ))
-    giving.given may
 
--- one call after another leaves what it leaves
-pub kept_then : {A : Type 0} (a b c : Option A) → Kept a b → Kept b c → Kept a c
-kept_then a b c p q = told_then _ _ _ a b c (λ x y z e f. f ∙ e) p q
+-- before a call
+pub untouched_starts : {image : ℕ → List ℕ → Type 0} {stamp : ℕ} (moment : ℕ) (since : ℕ → Files → ℕ → Type 0)
+    → ((files : Files) (s : ℕ) → since moment files s → AreImages image files × (s ≡ stamp)) → LeavesOnly moment moment since since (Untouched image stamp stamp)
+untouched_starts moment since now = started moment since (λ files s there.
+    let is = now files s there in record { images = is.0; at_least = omega (arith, is.1); at_most = omega (arith, is.1) })
 
-pub kept_same : {A : Type 0} (a : Option A) → Kept a a
-kept_same (Some x) = refl
-kept_same None = tt
+-- one more call, of those that don't touch the files
+pub untouched_goes_on : {told : Type 0} {m0 m1 m2 : ℕ} {past mid since : ℕ → Files → ℕ → Type 0} {seen seen' : ℕ → Option (List ℕ)}
+    {image image' : ℕ → List ℕ → Type 0} {e0 e1 e2 : ℕ} → FilesStay seen seen' image image' → e0 ≤ e1 → e1 ≤ e2
+    → LeavesOnly m0 m1 past mid (Untouched image e0 e1) → Elapses told m1 m2 mid since image' e1 e2 → LeavesOnly m0 m2 past since (Untouched image e0 e2)
+untouched_goes_on stay rose rises run call =
+    goes_on (weakened run (λ files s was. record { images = was.images; at_least = was.at_least; at_most = omega (arith, was.at_most, rises) }))
+    call (λ files s images from to. record { images = images_stay stay files images; at_least = omega (arith, rose, from); at_most = to })

@@ -1,59 +1,53 @@
--- A run from its first piece of the input to its end.
-use Rattle.std.proofs.Common.{◌≡◌, ℕ, ◌+◌, ◌-◌, ◌<◌, ◌≤◌, Bool, true, false, leb, List, [], ◌++◌, length, take, drop, Option, refl, sym, ap, subst, ◌∙◌, append_assoc, inl, inr, ◌⊎◌, arith}
+-- A run over an open store, from the first piece of the input to its end.
+use Rattle.std.proofs.Common.{◌≡◌, ℕ, ◌+◌, ◌-◌, ◌<◌, ◌≤◌, Bool, true, false, leb, List, [], ◌∷◌, ◌++◌, length, take, drop, Option, Some, None, refl, sym, ap, subst, ◌∙◌, append_assoc, inl, inr, ◌⊎◌, arith}
+use Rattle.std.specs.Prelude.{IfSome}
 use Rattle.std.proofs.lemmas.Bool.{le-leb, lt-leb}
 use Rattle.std.proofs.Math.Seq.{take-append-add}
 use Rattle.std.proofs.lemmas.List.{append-nil, length-append, take_all, take_at, drop-append-le}
-use Rattle.kh_io.specs.Told.{Told, Kept, Extends, IsFrontOf, Rose}
+use Rattle.kh_io.specs.declared.files.Files.{Files}
+use Rattle.kh_io.specs.Told.{Told, Kept, Extends, IsFrontOf}
+use Rattle.kh_io.specs.Disk.{AreImages, LeavesOnly}
+use Rattle.kh_io.proofs.Moments.{both, weakened}
+use Rattle.kh_io.proofs.Telling.{told_map, told_both}
+use Rattle.kh_read.specs.declared.form.Form.{Form}
 use Rattle.khepri.specs.declared.session.Stop.{Stop}
 use Rattle.khepri.specs.declared.session.Stop.TheVariants as stop
 use Rattle.khepri.specs.declared.input.Piece.TheVariants as piece
-use Rattle.khepri.specs.Tree.{Node, root}
-use Rattle.khepri.specs.Session.{Ending, AtEnd, AtFault, Unfinished, Session, Serves, EndsServing, BeginsServing, script_limit, WholeSession, ends}
-use Rattle.khepri.specs.Serving.{ServesTo, ServeStops, GivesFront}
+use Rattle.khepri.specs.State.{State, state_after, text_of}
+use Rattle.khepri.specs.Recovery.{Recovered, Recovers}
+use Rattle.khepri.specs.Script.{Ending, AtEnd, AtFault, Unfinished, Script, Reads, EndsReading, BeginsReading, script_limit, WholeScript, ends}
+use Rattle.khepri.specs.Session.{Untouched, HasPrefix, KeepsAnswered}
+use Rattle.khepri.specs.Serving.{Span, KeepsPrefix, Served, ServedToFault, ServedPart, ServesTo, ServeStops}
 use Rattle.khepri.specs.Input.{TakesMore, TakeStops}
-use Rattle.khepri.specs.Run.{stop_status, Ran, Ends}
-use Rattle.khepri.proofs.Told.{told_then, told_as, told_same}
-use Rattle.khepri.proofs.Serving.{serves_starts, serves_begins}
-use Rattle.khepri.proofs.Lines.{SoFar}
+use Rattle.khepri.specs.Run.{stop_status, IsCutOff, Never, Ran, Ends}
+use Rattle.khepri.proofs.Scripts.{reads_then, ends_then, begins_then, reads_more, reads_begins}
+use Rattle.khepri.proofs.Replies.{state_after-append, text_of-append, prefix_more, prefix_whole, prefix_behind, keeps_answered}
+use Rattle.khepri.proofs.Lines.{Counts, counts, told_counted, SoFar, nothing_served}
 
--- ---- serving in parts
+-- ---- what a host tells at a moment
 
-pub serves_then : (is_end : Bool) (bytes left last : List ℕ) (old mid new : List Node) (text others : List ℕ)
-    → Serves false bytes left old mid text → Serves is_end left last mid new others → Serves is_end bytes last old new (text ++ others)
-serves_then is_end bytes left last old mid new text others first second = record {
-  goes_on = λ end more behind ending comes session.
-      subst (λ (t : List ℕ). Session end (bytes ++ more) old t ending) (sym (append_assoc text others behind))
-      (first.goes_on end more (others ++ behind) ending tt (second.goes_on end more behind ending comes session));
+pub record View : Type 1 where
+  pub left : Option (List ℕ)
+  pub sink : Option (List ℕ)
+  pub stamp : ℕ
+  pub moment : ℕ
+  pub since : ℕ → Files → ℕ → Type 0
+  pub counted : Counts sink stamp
+
+abbrev pub view_of : {H : Type 0} (left sink : H → Option (List ℕ)) (stamp moment : H → ℕ) (since : H → ℕ → Files → ℕ → Type 0)
+    → ((host : H) (bytes : List ℕ) → sink host ≡ Some bytes → stamp host ≡ length bytes) → H → View
+view_of left sink stamp moment since law host = record {
+  left = left host;
+  sink = sink host;
+  stamp = stamp host;
+  moment = moment host;
+  since = since host;
+  counted = counts (sink host) (stamp host) (law host);
 }
 
-pub ends_then : (is_end : Bool) (bytes left : List ℕ) (old mid : List Node) (text others : List ℕ) (ending : Ending)
-    → Serves false bytes left old mid text → EndsServing is_end left mid others ending → EndsServing is_end bytes old (text ++ others) ending
-ends_then is_end bytes left old mid text others ending first second = record {
-  session = λ end more comes.
-      first.goes_on end more others ending tt (second.session end more comes);
-}
-
-pub begins_then : (is_end : Bool) (bytes left : List ℕ) (old mid : List Node) (text given : List ℕ)
-    → Serves false bytes left old mid text → BeginsServing is_end left mid given → BeginsServing is_end bytes old (text ++ given)
-begins_then is_end bytes left old mid text given first second = record {
-  session = λ end more comes.
-      let others = second.session end more comes in (
-        text ++ others.0,
-        others.1,
-        first.goes_on end more others.0 others.1 tt others.2,
-        (others.3.0, ap (λ (t : List ℕ). text ++ t) others.3.1 ∙ sym (append_assoc text given others.3.0)),
-      );
-}
-
--- more of the input has come
-pub serves_more : (bytes left more : List ℕ) (old mid : List Node) (text : List ℕ) → Serves false bytes left old mid text
-    → Serves false (bytes ++ more) (left ++ more) old mid text
-serves_more bytes left more old mid text so_far = record {
-  goes_on = λ end behind others ending comes session.
-      subst (λ (b : List ℕ). Session end b old (text ++ others) ending) (sym (append_assoc bytes more behind))
-      (so_far.goes_on end (more ++ behind) others ending tt
-      (subst (λ (b : List ℕ). Session end b mid others ending) (append_assoc left more behind) session));
-}
+-- the span from one view to another
+abbrev pub over : View → View → Span
+over v w = record { stamp = v.stamp; from = v.moment; to = w.moment; past = v.since; since = w.since }
 
 -- ---- what of an input is read
 
@@ -62,126 +56,129 @@ take_front limit front rest few =
     let split : limit ≡ length front + (limit - length front) = omega arith in
     ap (λ (n : ℕ). take n (front ++ rest)) split ∙ take-append-add front rest (limit - length front)
 
--- a session that ends whatever comes is that of the whole input
-pub whole_ends : (input rest : List ℕ) (text : List ℕ) (ending : Ending) → length input ≤ script_limit → EndsServing false input root text ending
-    → WholeSession (input ++ rest) text ending
-whole_ends input rest text ending few served =
-    subst (λ (b : List ℕ). Session (leb (length (input ++ rest)) script_limit) b root text ending) (sym (take_front script_limit input rest few))
-    (served.session (leb (length (input ++ rest)) script_limit) (take (script_limit - length input) rest) tt)
+-- a script that ends whatever comes is that of the whole input
+whole_ends : (input rest : List ℕ) (forms : List Form) (ending : Ending) → length input ≤ script_limit → EndsReading false input forms ending
+    → WholeScript (input ++ rest) forms ending
+whole_ends input rest forms ending few reads =
+    subst (λ (b : List ℕ). Script (leb (length (input ++ rest)) script_limit) b forms ending) (sym (take_front script_limit input rest few))
+    (reads.script (leb (length (input ++ rest)) script_limit) (take (script_limit - length input) rest) tt)
 
-pub whole_begins : (input rest : List ℕ) (given : List ℕ) → length input ≤ script_limit → BeginsServing false input root given
-    → (text : List ℕ) × (ending : Ending) × WholeSession (input ++ rest) text ending × IsFrontOf given text
-whole_begins input rest given few served =
-    let session = served.session (leb (length (input ++ rest)) script_limit) (take (script_limit - length input) rest) tt in (
-      session.0,
-      session.1,
-      subst (λ (b : List ℕ). Session (leb (length (input ++ rest)) script_limit) b root session.0 session.1) (sym (take_front script_limit input rest few)) session.2,
-      session.3,
+-- forms that begin a script begin that of the whole input
+abbrev WholeBegins : List ℕ → List Form → Type 0
+WholeBegins all forms = (others : List Form) × (ending : Ending) × WholeScript all (forms ++ others) ending
+
+whole_begins : (input rest : List ℕ) (forms : List Form) → length input ≤ script_limit → BeginsReading false input forms → WholeBegins (input ++ rest) forms
+whole_begins input rest forms few reads =
+    let script = reads.script (leb (length (input ++ rest)) script_limit) (take (script_limit - length input) rest) tt in (
+      script.0,
+      script.1,
+      subst (λ (b : List ℕ). Script (leb (length (input ++ rest)) script_limit) b (forms ++ script.0) script.1) (sym (take_front script_limit input rest few)) script.2,
     )
 
--- a session of all of an input
-pub whole_at_end : (input : List ℕ) (text : List ℕ) (ending : Ending) → length input ≤ script_limit → Session true input root text ending
-    → WholeSession input text ending
-whole_at_end input text ending few session = rw (le-leb _ _ few, take_all script_limit input few) session
+-- the script of all of an input
+whole_at_end : (input : List ℕ) (forms : List Form) (ending : Ending) → length input ≤ script_limit → Script true input forms ending → WholeScript input forms ending
+whole_at_end input forms ending few script = rw (le-leb _ _ few, take_all script_limit input few) script
 
--- the session of an input that goes on past the limit
-pub whole_too_long : (input rest : List ℕ) (text : List ℕ) (ending : Ending) → length input ≡ script_limit → 0 < length rest → Session false input root text ending
-    → WholeSession (input ++ rest) text ending
-whole_too_long input rest text ending full more session =
+whole_at_true : (input : List ℕ) (forms : List Form) (ending : Ending) → length input ≤ script_limit → EndsReading true input forms ending → WholeScript input forms ending
+whole_at_true input forms ending few reads =
+    whole_at_end input forms ending few (subst (λ (b : List ℕ). Script true b forms ending) (append-nil input) (reads.script true [] (refl, refl)))
+
+whole_begins_true : (input : List ℕ) (forms : List Form) → length input ≤ script_limit → BeginsReading true input forms → WholeBegins input forms
+whole_begins_true input forms few reads =
+    let script = reads.script true [] (refl, refl) in (
+      script.0,
+      script.1,
+      whole_at_end input (forms ++ script.0) script.1 few (subst (λ (b : List ℕ). Script true b (forms ++ script.0) script.1) (append-nil input) script.2),
+    )
+
+-- the script of an input that goes on past the limit
+whole_too_long : (input rest : List ℕ) (forms : List Form) (ending : Ending) → length input ≡ script_limit → 0 < length rest → Script false input forms ending
+    → WholeScript (input ++ rest) forms ending
+whole_too_long input rest forms ending full more script =
     let past : leb (length (input ++ rest)) script_limit ≡ false = lt-leb _ _ (omega (arith, length-append input rest)) in
-    rw (past, take_at input rest script_limit full) session
+    rw (past, take_at input rest script_limit full) script
 
 -- ---- how a run stands
 
 -- The pieces of the input that came were answered as far as their lines are whole.
-pub record IsRunning (left left_now sink sink_now : Option (List ℕ)) (input : List ℕ) (at : ℕ) (nodes : List Node) : Type 0 where
+pub record IsRunning (v w : View) (input : List ℕ) (at : ℕ) (first state : State) : Type 0 where
   pub within : at ≤ length input
   pub short : length input ≤ script_limit
-  pub given : SoFar false input (drop at input) root nodes sink sink_now
-  pub told : Told left left_now (λ all rest. all ≡ input ++ rest)
-  pub rests : Session false (drop at input) nodes [] Unfinished
+  pub given : SoFar false input (drop at input) first state (over v w) v.sink w.sink
+  pub told : Told v.left w.left (λ all rest. all ≡ input ++ rest)
+  pub rests : Script false (drop at input) [] Unfinished
 
-pub starts : (left sink : Option (List ℕ)) → IsRunning left left sink sink [] 0 root
-starts left sink = record {
+nothing_taken : (left : Option (List ℕ)) → Told left left (λ all rest. all ≡ [] ++ rest)
+nothing_taken (Some x) = refl
+nothing_taken None = tt
+
+pub starts : (v : View) (state : State) → ((files : Files) (s : ℕ) → v.since v.moment files s → Recovers files (Recovered state) × (s ≡ v.stamp))
+    → IsRunning v v [] 0 state state
+starts v state now = record {
   within = omega arith;
   short = omega arith;
-  given = told_same _ sink (λ a. ([], sym (append-nil a), serves_starts false [] root));
-  told = told_same _ left (λ a. refl);
-  rests = ends root;
+  given = nothing_served false [] state v.sink v.stamp v.moment v.since now;
+  told = nothing_taken v.left;
+  rests = ends;
 }
 
--- what the host tells of the input and of the sink, put together
-assemble : (status : ℕ) (left left_now sink sink_now : Option (List ℕ)) (P : List ℕ → List ℕ → Type 0) (X : List ℕ → Type 0)
-    → Told left left_now P → Told sink sink_now (λ a b. (text : List ℕ) × (b ≡ a ++ text) × X text)
-    → ((all rest text : List ℕ) → P all rest → X text → Ran status all rest text)
-    → Told left left_now (λ all rest. Extends sink sink_now (Ran status all rest))
-assemble status left left_now sink sink_now P X told given both =
-    told_as _ _ left left_now (λ all rest p. told_as _ _ sink sink_now (λ a b q. (q.0, q.1, both all rest q.0 p q.2)) given) told
-
--- a run that only began what the session gives
-ran_begun : (status : ℕ) (input all more rest given : List ℕ) → length input ≤ script_limit → all ≡ input ++ more → BeginsServing false input root given
-    → ((status ≡ 4) ⊎ (status ≡ 6)) → Ran status all rest given
-ran_begun status input all more rest given few is served which =
-    let whole = whole_begins input more given few served in
-    record {
-      text = whole.0;
-      ending = whole.1;
-      session = subst (λ (b : List ℕ). WholeSession b whole.0 whole.1) (sym is) whole.2;
-      front = whole.3;
-      how = inr (inr which);
-      done = λ e. absurd (elim which [ inl f ↦ omega arith | inr f ↦ omega arith ]);
-      syntax = λ e. absurd (elim which [ inl f ↦ omega arith | inr f ↦ omega arith ]);
-      too_long = λ e. absurd (elim which [ inl f ↦ omega arith | inr f ↦ omega arith ]);
-      read_fault = λ e. absurd (elim which [ inl f ↦ omega arith | inr f ↦ omega arith ]);
-    }
-
--- a run that met bytes that are no form
-ran_to_fault : (input all rest given : List ℕ) → WholeSession all given AtFault → Ran 2 all rest given
-ran_to_fault input all rest given session = record {
-  text = given;
-  ending = AtFault;
-  session = session;
-  front = ([], sym (append-nil given));
-  how = inl refl;
-  done = λ e. absurd (omega arith);
-  syntax = λ e. refl;
-  too_long = λ e. absurd (omega arith);
-  read_fault = λ e. absurd (omega arith);
-}
-
--- a further piece has come
-pub took : (left left_now left_later sink sink_now sink_later : Option (List ℕ)) (input more : List ℕ) (at : ℕ) (nodes : List Node)
-    → IsRunning left left_now sink sink_now input at nodes → length (input ++ more) ≤ script_limit
-    → Told left_now left_later (λ a b. a ≡ more ++ b) → Kept sink_now sink_later
-    → (at ≤ length (input ++ more)) × SoFar false (input ++ more) (drop at (input ++ more)) root nodes sink sink_later
-    × Told left left_later (λ all rest. all ≡ (input ++ more) ++ rest)
-took left left_now left_later sink sink_now sink_later input more at nodes run few came kept =
-    let within = run.within in (
-      omega (arith, length-append input more),
-      told_then _ _ _ sink sink_now sink_later (λ x y z p q. (
-        p.0,
-        q ∙ p.1,
-        subst (λ (b : List ℕ). Serves false (input ++ more) b root nodes p.0) (sym (drop-append-le at input more within))
-            (serves_more input (drop at input) more root nodes p.0 p.2),
-      )) run.given kept,
-      told_then _ _ _ left left_now left_later (λ x y z p q. p ∙ ap (λ (r : List ℕ). input ++ r) q ∙ sym (append_assoc input more z)) run.told came,
-    )
+-- the files aren't touched, and nothing is given
+pub so_far_untouched : (is_end : Bool) (input rest : List ℕ) (first state : State) (v w x : View) (image : ℕ → List ℕ → Type 0)
+    → SoFar is_end input rest first state (over v w) v.sink w.sink → Kept w.sink x.sink → x.stamp ≡ w.stamp
+    → ((files : Files) → AreImages image files → Recovers files (Recovered state)) → LeavesOnly w.moment x.moment w.since x.since (Untouched image w.stamp x.stamp)
+    → SoFar is_end input rest first state (over v x) v.sink x.sink
+so_far_untouched is_end input rest first state v w x image so_far kept same recovers untouched =
+    told_counted v.sink w.sink x.sink v.stamp w.stamp x.stamp v.counted w.counted x.counted so_far kept (λ a b c k l m p q. (
+      p.0,
+      q ∙ p.1,
+      record {
+        forms = p.2.forms;
+        reads = p.2.reads;
+        text = p.2.text;
+        state = p.2.state;
+        crash = both p.2.crash untouched (λ files s u. prefix_whole first p.2.forms v.stamp files s
+            (subst (λ (t : State). Recovers files (Recovered t)) p.2.state (recovers files u.images))
+            (omega (arith, u.at_most, same, k, l, ap length p.1, length-append a p.0, ap length p.2.text)));
+      },
+    ))
 
 -- The lines that had come were answered, and a further piece has come.
-pub record HasMore (left left_now sink sink_now : Option (List ℕ)) (input : List ℕ) (at : ℕ) (nodes : List Node) : Type 0 where
+pub record HasMore (v w : View) (input : List ℕ) (at : ℕ) (first state : State) : Type 0 where
   pub within : at ≤ length input
   pub short : length input ≤ script_limit
-  pub given : SoFar false input (drop at input) root nodes sink sink_now
-  pub told : Told left left_now (λ all rest. all ≡ input ++ rest)
+  pub given : SoFar false input (drop at input) first state (over v w) v.sink w.sink
+  pub told : Told v.left w.left (λ all rest. all ≡ input ++ rest)
 
-pub took_piece : (left left_now left_later sink sink_now sink_later : Option (List ℕ)) (input input_after : List ℕ) (at : ℕ) (nodes : List Node)
-    → IsRunning left left_now sink sink_now input at nodes → TakesMore piece.Some left_now left_later input input_after → Kept sink_now sink_later
-    → HasMore left left_later sink sink_later input_after at nodes
-took_piece left left_now left_later sink sink_now sink_later input input_after at nodes run taken kept =
+-- the same input, with more behind it
+so_far_more : (input more : List ℕ) (at : ℕ) (first state : State) (v w : View) → at ≤ length input
+    → SoFar false input (drop at input) first state (over v w) v.sink w.sink → SoFar false (input ++ more) (drop at (input ++ more)) first state (over v w) v.sink w.sink
+so_far_more input more at first state v w within so_far = told_map v.sink w.sink so_far (λ x y p. (
+  p.0,
+  p.1,
+  record {
+    forms = p.2.forms;
+    reads = subst (λ (b : List ℕ). Reads false (input ++ more) b p.2.forms) (sym (drop-append-le at input more within))
+        (reads_more input (drop at input) more p.2.forms p.2.reads);
+    text = p.2.text;
+    state = p.2.state;
+    crash = p.2.crash;
+  },
+))
+
+pub took_piece : (v w x : View) (input input_after : List ℕ) (at : ℕ) (first state : State) (image : ℕ → List ℕ → Type 0)
+    → IsRunning v w input at first state → TakesMore piece.Some w.left x.left input input_after → Kept w.sink x.sink → x.stamp ≡ w.stamp
+    → ((files : Files) → AreImages image files → Recovers files (Recovered state)) → LeavesOnly w.moment x.moment w.since x.since (Untouched image w.stamp x.stamp)
+    → HasMore v x input_after at first state
+took_piece v w x input input_after at first state image run taken kept same recovers untouched =
+    let within = run.within in
     let few : length (input ++ taken.0) ≤ script_limit = subst (λ (b : List ℕ). length b ≤ script_limit) taken.2 taken.3 in
-    let more = took left left_now left_later sink sink_now sink_later input taken.0 at nodes run few taken.4 kept in
-    subst (λ (b : List ℕ). HasMore left left_later sink sink_later b at nodes) (sym taken.2)
-    (record { within = more.0; short = few; given = more.1; told = more.2 })
+    subst (λ (b : List ℕ). HasMore v x b at first state) (sym taken.2) (record {
+      within = omega (arith, length-append input taken.0);
+      short = few;
+      given = so_far_more input taken.0 at first state v x within
+          (so_far_untouched false input (drop at input) first state v w x image run.given kept same recovers untouched);
+      told = told_both v.left w.left x.left run.told taken.4 (λ a b c p q. p ∙ ap (λ (r : List ℕ). input ++ r) q ∙ sym (append_assoc input taken.0 c));
+    })
 
 -- how much less may come then
 pub took_shorter : (left_now left_later : Option (List ℕ)) (input input_after : List ℕ) → TakesMore piece.Some left_now left_later input input_after
@@ -192,263 +189,375 @@ took_shorter left_now left_later input input_after taken =
     let len : length input_after ≡ length input + length taken.0 = ap length taken.2 ∙ length-append input taken.0 in
     omega arith
 
--- and its lines were answered
-pub served_on : (left left_now left_later sink sink_now sink_later : Option (List ℕ)) (input : List ℕ) (at next : ℕ) (nodes mid : List Node)
-    → length input ≤ script_limit → SoFar false input (drop at input) root nodes sink sink_now → Told left left_now (λ all rest. all ≡ input ++ rest)
-    → ServesTo false input at next nodes mid sink_now sink_later → Kept left_now left_later → IsRunning left left_later sink sink_later input next mid
-served_on left left_now left_later sink sink_now sink_later input at next nodes mid few so_far told served kept = record {
+-- the input is as it was
+still_left : (v w x : View) (input : List ℕ) → Told v.left w.left (λ all rest. all ≡ input ++ rest) → Kept w.left x.left
+    → Told v.left x.left (λ all rest. all ≡ input ++ rest)
+still_left v w x input told kept = told_both v.left w.left x.left told kept (λ a b c p q. p ∙ ap (λ (r : List ℕ). input ++ r) (sym q))
+
+-- what is given behind the lines so far
+joined : {Q : List ℕ → Type 0} (R : List ℕ → Type 0) (is_end : Bool) (input rest : List ℕ) (first state : State) (v w x : View)
+    → SoFar is_end input rest first state (over v w) v.sink w.sink → Extends w.sink x.sink Q
+    → ((given more : List ℕ) (served : Served is_end input rest first state (over v w) given) → w.stamp ≤ v.stamp + length (text_of served.forms first) → Q more → R (given ++ more))
+    → Extends v.sink x.sink R
+joined R is_end input rest first state v w x so_far next is =
+    told_counted v.sink w.sink x.sink v.stamp w.stamp x.stamp v.counted w.counted x.counted so_far next (λ a b c k l m p q. (
+      p.0 ++ q.0,
+      q.1 ∙ ap (λ (t : List ℕ). t ++ q.0) p.1 ∙ append_assoc a p.0 q.0,
+      is p.0 q.0 p.2 (omega (arith, k, l, ap length p.1, length-append a p.0, ap length p.2.text)) q.2,
+    ))
+
+-- a crash over two spans
+kept_behind : (first state : State) (forms others : List Form) (v w x : View) → state ≡ state_after forms first → w.stamp ≤ v.stamp + length (text_of forms first)
+    → KeepsPrefix (over v w) first forms → KeepsPrefix (over w x) state others → KeepsPrefix (over v x) first (forms ++ others)
+kept_behind first state forms others v w x is taken before behind =
+    both (weakened before (λ files s. prefix_more first forms others v.stamp files s)) behind
+    (λ files s. prefix_behind first state forms others v.stamp w.stamp files s is taken)
+
+-- the text of two spans
+text_behind : (first state : State) (forms others : List Form) (given more : List ℕ) → state ≡ state_after forms first → given ≡ text_of forms first
+    → more ≡ text_of others state → given ++ more ≡ text_of (forms ++ others) first
+text_behind first state forms others given more is text next =
+    ap (λ (t : List ℕ). t ++ more) text ∙ ap (λ (t : List ℕ). text_of forms first ++ t) (next ∙ ap (text_of others) is) ∙ sym (text_of-append forms others first)
+
+-- and lines were answered behind those
+both_served : (is_end : Bool) (input rest last : List ℕ) (first state new : State) (v w x : View) (given more : List ℕ)
+    (served : Served false input rest first state (over v w) given) → w.stamp ≤ v.stamp + length (text_of served.forms first)
+    → Served is_end rest last state new (over w x) more → Served is_end input last first new (over v x) (given ++ more)
+both_served is_end input rest last first state new v w x given more served taken next = record {
+  forms = served.forms ++ next.forms;
+  reads = reads_then is_end input rest last served.forms next.forms served.reads next.reads;
+  text = text_behind first state served.forms next.forms given more served.state served.text next.text;
+  state = next.state ∙ ap (state_after next.forms) served.state ∙ sym (state_after-append served.forms next.forms first);
+  crash = kept_behind first state served.forms next.forms v w x served.state taken served.crash next.crash;
+}
+
+both_to_fault : (is_end : Bool) (input rest : List ℕ) (first state : State) (v w x : View) (given more : List ℕ)
+    (served : Served false input rest first state (over v w) given) → w.stamp ≤ v.stamp + length (text_of served.forms first)
+    → ServedToFault is_end rest state (over w x) more → ServedToFault is_end input first (over v x) (given ++ more)
+both_to_fault is_end input rest first state v w x given more served taken next = record {
+  forms = served.forms ++ next.forms;
+  reads = ends_then is_end input rest served.forms next.forms AtFault served.reads next.reads;
+  text = text_behind first state served.forms next.forms given more served.state served.text next.text;
+  crash = kept_behind first state served.forms next.forms v w x served.state taken served.crash next.crash;
+}
+
+both_part : (is_end : Bool) (input rest : List ℕ) (first state : State) (v w x : View) (given more : List ℕ)
+    (served : Served false input rest first state (over v w) given) → w.stamp ≤ v.stamp + length (text_of served.forms first)
+    → ServedPart is_end rest state (over w x) more → ServedPart is_end input first (over v x) (given ++ more)
+both_part is_end input rest first state v w x given more served taken next = record {
+  forms = served.forms ++ next.forms;
+  reads = begins_then is_end input rest served.forms next.forms served.reads next.reads;
+  front = (
+    next.front.0,
+    sym (text_behind first state served.forms next.forms given (more ++ next.front.0) served.state served.text (sym next.front.1))
+        ∙ sym (append_assoc given more next.front.0),
+  );
+  crash = kept_behind first state served.forms next.forms v w x served.state taken served.crash next.crash;
+}
+
+-- the lines of a piece were answered
+pub served_on : (v w x : View) (input : List ℕ) (at next : ℕ) (first state new : State) → HasMore v w input at first state
+    → ServesTo false input at next state new (over w x) w.sink x.sink → Kept w.left x.left → IsRunning v x input next first new
+served_on v w x input at next first state new more served kept = record {
   within = served.within;
-  short = few;
-  given = told_then _ _ _ sink sink_now sink_later (λ x y z p q. (
-    p.0 ++ q.0,
-    q.1 ∙ ap (λ (t : List ℕ). t ++ q.0) p.1 ∙ append_assoc x p.0 q.0,
-    serves_then false input (drop at input) (drop next input) root nodes mid p.0 q.0 p.2 q.2,
-  )) so_far served.given;
-  told = told_then _ _ _ left left_now left_later (λ x y z p q. p ∙ ap (λ (r : List ℕ). input ++ r) (sym q)) told kept;
+  short = more.short;
+  given = joined (Served false input (drop next input) first new (over v x)) false input (drop at input) first state v w x more.given served.given
+      (both_served false input (drop at input) (drop next input) first state new v w x);
+  told = still_left v w x input more.told kept;
   rests = served.rests;
 }
 
--- only a front of the next replies was given
-front_ends : (status : ℕ) (left left_now left_later sink sink_now sink_later : Option (List ℕ)) (input : List ℕ) (at : ℕ) (nodes : List Node)
-    → ((status ≡ 4) ⊎ (status ≡ 6)) → length input ≤ script_limit → SoFar false input (drop at input) root nodes sink sink_now
-    → Told left left_now (λ all rest. all ≡ input ++ rest) → GivesFront false (drop at input) nodes sink_now sink_later → Kept left_now left_later
-    → Ends status left left_later sink sink_later
-front_ends status left left_now left_later sink sink_now sink_later input at nodes which few so_far told given kept =
-    assemble status left left_later sink sink_later (λ all rest. all ≡ input ++ rest) (BeginsServing false input root)
-    (told_then _ _ _ left left_now left_later (λ x y z p q. p ∙ ap (λ (r : List ℕ). input ++ r) (sym q)) told kept)
-    (told_then _ _ _ sink sink_now sink_later (λ x y z p q. (
-      p.0 ++ q.0,
-      q.1 ∙ ap (λ (t : List ℕ). t ++ q.0) p.1 ∙ append_assoc x p.0 q.0,
-      begins_then false input (drop at input) root nodes p.0 q.0 p.2 q.2,
-    )) so_far given)
-    (λ all rest text is served. ran_begun status input all rest rest text few is served which)
+-- ---- what a run has done at its end
 
-pub served_stops : (left left_now left_later sink sink_now sink_later : Option (List ℕ)) (input : List ℕ) (at : ℕ) (nodes : List Node) (s : Stop) (before faults : ℕ)
-    → length input ≤ script_limit → SoFar false input (drop at input) root nodes sink sink_now → Told left left_now (λ all rest. all ≡ input ++ rest)
-    → ServeStops s false (drop at input) nodes sink_now sink_later before faults → Kept left_now left_later
-    → Ends (stop_status s) left left_later sink sink_later
-served_stops left left_now left_later sink sink_now sink_later input at nodes stop.Syntax before faults few so_far told served kept =
-    assemble 2 left left_later sink sink_later (λ all rest. all ≡ input ++ rest) (λ text. EndsServing false input root text AtFault)
-    (told_then _ _ _ left left_now left_later (λ x y z p q. p ∙ ap (λ (r : List ℕ). input ++ r) (sym q)) told kept)
-    (told_then _ _ _ sink sink_now sink_later (λ x y z p q. (
-      p.0 ++ q.0,
-      q.1 ∙ ap (λ (t : List ℕ). t ++ q.0) p.1 ∙ append_assoc x p.0 q.0,
-      ends_then false input (drop at input) root nodes p.0 q.0 AtFault p.2 q.2,
-    )) so_far served)
-    (λ all rest text is ended. ran_to_fault input all rest text
-    (subst (λ (b : List ℕ). WholeSession b text AtFault) (sym is) (whole_ends input rest text AtFault few ended)))
-served_stops left left_now left_later sink sink_now sink_later input at nodes stop.ReadFault before faults few so_far told served kept = absurd served
-served_stops left left_now left_later sink sink_now sink_later input at nodes stop.TooLong before faults few so_far told served kept = absurd served
-served_stops left left_now left_later sink sink_now sink_later input at nodes stop.WriteFault before faults few so_far told served kept =
-    front_ends 4 left left_now left_later sink sink_now sink_later input at nodes (inl refl) few so_far told served.0 kept
-served_stops left left_now left_later sink sink_now sink_later input at nodes stop.NoMemory before faults few so_far told served kept =
-    front_ends 6 left left_now left_later sink sink_now sink_later input at nodes (inr refl) few so_far told served kept
+-- a crash leaves what was answered, whatever commands are behind them
+ran_crash : (first : State) (forms others : List Form) (span : Span) → KeepsPrefix span first forms
+    → LeavesOnly span.from span.to span.past span.since (λ files s. Never files s ⊎ KeepsAnswered first (forms ++ others) span.stamp files s)
+ran_crash first forms others span crash =
+    weakened crash (λ files s has. inr (keeps_answered first (forms ++ others) span.stamp files s (prefix_more first forms others span.stamp files s has)))
+
+ran_crash_all : (first : State) (forms : List Form) (span : Span) → KeepsPrefix span first forms
+    → LeavesOnly span.from span.to span.past span.since (λ files s. Never files s ⊎ KeepsAnswered first forms span.stamp files s)
+ran_crash_all first forms span crash = weakened crash (λ files s has. inr (keeps_answered first forms span.stamp files s has))
+
+more_of_text : (first : State) (forms others : List Form) (given : List ℕ) → IsFrontOf given (text_of forms first) → IsFrontOf given (text_of (forms ++ others) first)
+more_of_text first forms others given front = (
+  front.0 ++ text_of others (state_after forms first),
+  text_of-append forms others first ∙ ap (λ (t : List ℕ). t ++ text_of others (state_after forms first)) front.1
+      ∙ append_assoc given front.0 (text_of others (state_after forms first)),
+)
+
+-- a status that says that the sink or the disk failed, or that memory ran out
+abbrev IsCutLate : ℕ → Type 0
+IsCutLate status = (status ≡ 4) ⊎ ((status ≡ 5) ⊎ (status ≡ 6))
+
+late_is : (status n : ℕ) → IsCutLate status → n < 4 → status ≡ n → ⊥
+late_is status n (inl is) small same = omega arith
+late_is status n (inr (inl is)) small same = omega arith
+late_is status n (inr (inr is)) small same = omega arith
+
+late_not_nine : (status : ℕ) → IsCutLate status → status ≡ 9 → ⊥
+late_not_nine status (inl is) same = omega arith
+late_not_nine status (inr (inl is)) same = omega arith
+late_not_nine status (inr (inr is)) same = omega arith
+
+-- a run that was cut off while it answered
+ran_part : (status : ℕ) (first : State) (span : Span) (image : ℕ → List ℕ → Type 0) (all rest given : List ℕ) (forms : List Form) → WholeBegins all forms
+    → IsFrontOf given (text_of forms first) → KeepsPrefix span first forms → IsCutLate status → Ran first status Never span image all rest given
+ran_part status first span image all rest given forms whole front crash late = record {
+  forms = forms ++ whole.0;
+  ending = whole.1;
+  script = whole.2;
+  front = more_of_text first forms whole.0 given front;
+  how = inr (inr late);
+  done = λ e. absurd (late_is status 0 late (omega arith) e);
+  syntax = λ e. absurd (late_is status 2 late (omega arith) e);
+  too_long = λ e. absurd (late_not_nine status late e);
+  read_fault = λ e. absurd (late_is status 3 late (omega arith) e);
+  crash = ran_crash first forms whole.0 span crash;
+  last = λ e. absurd (late_is status 0 late (omega arith) e);
+}
+
+-- a run that met bytes that are no form
+ran_to_fault : (first : State) (span : Span) (image : ℕ → List ℕ → Type 0) (all rest given : List ℕ) (forms : List Form) → WholeScript all forms AtFault
+    → given ≡ text_of forms first → KeepsPrefix span first forms → Ran first 2 Never span image all rest given
+ran_to_fault first span image all rest given forms script text crash = record {
+  forms = forms;
+  ending = AtFault;
+  script = script;
+  front = ([], sym text ∙ sym (append-nil given));
+  how = inl refl;
+  done = λ e. absurd (omega arith);
+  syntax = λ e. text;
+  too_long = λ e. absurd (omega arith);
+  read_fault = λ e. absurd (omega arith);
+  crash = ran_crash_all first forms span crash;
+  last = λ e. absurd (omega arith);
+}
+
+-- what the host tells of the input and of the sink, put together
+assemble : {P : List ℕ → List ℕ → Type 0} (X : List ℕ → Type 0) (status : ℕ) (first : State) (v x : View) (image : ℕ → List ℕ → Type 0)
+    → Told v.left x.left P → Extends v.sink x.sink X → ((all rest given : List ℕ) → P all rest → X given → Ran first status Never (over v x) image all rest given)
+    → Ends first status Never (over v x) image v.left x.left v.sink x.sink
+assemble X status first v x image told given is =
+    told_map v.left x.left told (λ all rest p. told_map v.sink x.sink given (λ a b q. (q.0, q.1, is all rest q.0 p q.2)))
+
+-- only a front of the next replies was given
+part_stops : (v w x : View) (input : List ℕ) (at : ℕ) (first state : State) (image : ℕ → List ℕ → Type 0) (status : ℕ) → IsCutLate status
+    → HasMore v w input at first state → Extends w.sink x.sink (ServedPart false (drop at input) state (over w x)) → Kept w.left x.left
+    → Ends first status Never (over v x) image v.left x.left v.sink x.sink
+part_stops v w x input at first state image status late more served kept =
+    assemble (ServedPart false input first (over v x)) status first v x image (still_left v w x input more.told kept)
+    (joined (ServedPart false input first (over v x)) false input (drop at input) first state v w x more.given served (both_part false input (drop at input) first state v w x))
+    (λ all rest given is begun. ran_part status first (over v x) image all rest given begun.forms
+    (subst (λ (b : List ℕ). WholeBegins b begun.forms) (sym is) (whole_begins input rest begun.forms more.short begun.reads)) begun.front begun.crash late)
+
+-- serving the lines of a piece ended early
+pub served_stops : (v w x : View) (input : List ℕ) (at : ℕ) (first state : State) (image : ℕ → List ℕ → Type 0) (s : Stop) (sink_rose disk_rose : Type 0)
+    → HasMore v w input at first state → ServeStops s false (drop at input) state (over w x) w.sink x.sink sink_rose disk_rose → Kept w.left x.left
+    → Ends first (stop_status s) Never (over v x) image v.left x.left v.sink x.sink
+served_stops v w x input at first state image stop.Syntax sink_rose disk_rose more served kept =
+    assemble (ServedToFault false input first (over v x)) 2 first v x image (still_left v w x input more.told kept)
+    (joined (ServedToFault false input first (over v x)) false input (drop at input) first state v w x more.given served (both_to_fault false input (drop at input) first state v w x))
+    (λ all rest given is ended. ran_to_fault first (over v x) image all rest given ended.forms
+    (subst (λ (b : List ℕ). WholeScript b ended.forms AtFault) (sym is) (whole_ends input rest ended.forms AtFault more.short ended.reads)) ended.text ended.crash)
+served_stops v w x input at first state image stop.Damaged sink_rose disk_rose more served kept = absurd served
+served_stops v w x input at first state image stop.ReadFault sink_rose disk_rose more served kept = absurd served
+served_stops v w x input at first state image stop.TooLong sink_rose disk_rose more served kept = absurd served
+served_stops v w x input at first state image stop.WriteFault sink_rose disk_rose more served kept = part_stops v w x input at first state image 4 (inl refl) more served.0 kept
+served_stops v w x input at first state image stop.DiskFault sink_rose disk_rose more served kept = part_stops v w x input at first state image 5 (inr (inl refl)) more served.0 kept
+served_stops v w x input at first state image stop.NoMemory sink_rose disk_rose more served kept = part_stops v w x input at first state image 6 (inr (inr refl)) more served kept
 
 -- ---- no further piece came
 
-session_so_far : (input : List ℕ) (at : ℕ) (nodes : List Node) (text : List ℕ) → Serves false input (drop at input) root nodes text
-    → Session false (drop at input) nodes [] Unfinished → Session false input root text Unfinished
-session_so_far input at nodes text served rests =
-    let here : Session false (drop at input ++ []) nodes [] Unfinished = subst (λ (b : List ℕ). Session false b nodes [] Unfinished) (sym (append-nil (drop at input))) rests in
-    subst (λ (b : List ℕ). Session false b root text Unfinished) (append-nil input)
-    (subst (λ (t : List ℕ). Session false (input ++ []) root t Unfinished) (append-nil text) (served.goes_on false [] [] Unfinished tt here))
+script_so_far : (input : List ℕ) (at : ℕ) (forms : List Form) → Reads false input (drop at input) forms → Script false (drop at input) [] Unfinished
+    → Script false input forms Unfinished
+script_so_far input at forms reads rests =
+    let here : Script false (drop at input ++ []) [] Unfinished = subst (λ (b : List ℕ). Script false b [] Unfinished) (sym (append-nil (drop at input))) rests in
+    subst (λ (b : List ℕ). Script false b forms Unfinished) (append-nil input)
+    (subst (λ (fs : List Form). Script false (input ++ []) fs Unfinished) (append-nil forms) (reads.goes_on false [] [] Unfinished tt here))
 
-ran_to_read_fault : (input all rest text : List ℕ) (at : ℕ) (nodes : List Node) → length input ≤ script_limit → all ≡ input ++ rest
-    → Serves false input (drop at input) root nodes text → Session false (drop at input) nodes [] Unfinished → Ran 3 all rest text
-ran_to_read_fault input all rest text at nodes few is served rests =
-    let whole = whole_begins input rest text few (serves_begins false input (drop at input) root nodes text served) in
+-- a read failed
+ran_to_read_fault : (first state : State) (span : Span) (image : ℕ → List ℕ → Type 0) (input all rest given : List ℕ) (at : ℕ) → length input ≤ script_limit
+    → all ≡ input ++ rest → Served false input (drop at input) first state span given → Script false (drop at input) [] Unfinished
+    → Ran first 3 Never span image all rest given
+ran_to_read_fault first state span image input all rest given at few is served rests =
+    let whole = whole_begins input rest served.forms few (reads_begins false input (drop at input) served.forms served.reads) in
     record {
-      text = whole.0;
+      forms = served.forms ++ whole.0;
       ending = whole.1;
-      session = subst (λ (b : List ℕ). WholeSession b whole.0 whole.1) (sym is) whole.2;
-      front = whole.3;
+      script = subst (λ (b : List ℕ). WholeScript b (served.forms ++ whole.0) whole.1) (sym is) whole.2;
+      front = more_of_text first served.forms whole.0 given ([], sym served.text ∙ sym (append-nil given));
       how = inr (inl refl);
       done = λ e. absurd (omega arith);
       syntax = λ e. absurd (omega arith);
       too_long = λ e. absurd (omega arith);
-      read_fault = λ e. (input, is, session_so_far input at nodes text served rests);
+      read_fault = λ e. (input, served.forms, is, script_so_far input at served.forms served.reads rests, served.text);
+      crash = ran_crash first served.forms whole.0 span served.crash;
+      last = λ e. absurd (omega arith);
     }
 
-ran_to_limit : (input all rest text : List ℕ) (at : ℕ) (nodes : List Node) → length input ≡ script_limit → (more : List ℕ) → all ≡ input ++ more → 0 < length more
-    → Serves false input (drop at input) root nodes text → Session false (drop at input) nodes [] Unfinished → Ran 9 all rest text
-ran_to_limit input all rest text at nodes full more is some served rests = record {
-  text = text;
+-- the limit was met, and more comes
+ran_to_limit : (first state : State) (span : Span) (image : ℕ → List ℕ → Type 0) (input all rest given : List ℕ) (at : ℕ) → length input ≡ script_limit
+    → (more : List ℕ) → all ≡ input ++ more → 0 < length more → Served false input (drop at input) first state span given
+    → Script false (drop at input) [] Unfinished → Ran first 9 Never span image all rest given
+ran_to_limit first state span image input all rest given at full more is some served rests = record {
+  forms = served.forms;
   ending = Unfinished;
-  session = subst (λ (b : List ℕ). WholeSession b text Unfinished) (sym is) (whole_too_long input more text Unfinished full some (session_so_far input at nodes text served rests));
-  front = ([], sym (append-nil text));
+  script = subst (λ (b : List ℕ). WholeScript b served.forms Unfinished) (sym is)
+      (whole_too_long input more served.forms Unfinished full some (script_so_far input at served.forms served.reads rests));
+  front = ([], sym served.text ∙ sym (append-nil given));
   how = inl refl;
   done = λ e. absurd (omega arith);
   syntax = λ e. absurd (omega arith);
-  too_long = λ e. refl;
+  too_long = λ e. served.text;
   read_fault = λ e. absurd (omega arith);
+  crash = ran_crash_all first served.forms span served.crash;
+  last = λ e. absurd (omega arith);
 }
 
-pub take_stops : (left left_now left_later sink sink_now sink_later : Option (List ℕ)) (input : List ℕ) (at : ℕ) (nodes : List Node) (s : Stop) (before faults : ℕ)
-    → IsRunning left left_now sink sink_now input at nodes → TakeStops s left_now left_later input before faults → Kept sink_now sink_later
-    → Ends (stop_status s) left left_later sink sink_later
-take_stops left left_now left_later sink sink_now sink_later input at nodes stop.Syntax before faults run stops kept = absurd stops
-take_stops left left_now left_later sink sink_now sink_later input at nodes stop.WriteFault before faults run stops kept = absurd stops
-take_stops left left_now left_later sink sink_now sink_later input at nodes stop.ReadFault before faults run stops kept =
-    assemble 3 left left_later sink sink_later (λ all rest. all ≡ input ++ rest) (Serves false input (drop at input) root nodes)
-    (told_then _ _ _ left left_now left_later (λ x y z p q. p ∙ ap (λ (r : List ℕ). input ++ r) (sym q)) run.told stops.0)
-    (told_then _ _ _ sink sink_now sink_later (λ x y z p q. (p.0, q ∙ p.1, p.2)) run.given kept)
-    (λ all rest text is served. ran_to_read_fault input all rest text at nodes run.short is served run.rests)
-take_stops left left_now left_later sink sink_now sink_later input at nodes stop.TooLong before faults run stops kept =
-    assemble 9 left left_later sink sink_later (λ all rest. (more : List ℕ) × (all ≡ input ++ more) × (0 < length more)) (Serves false input (drop at input) root nodes)
-    (told_then _ _ _ left left_now left_later (λ x y z p q. (y, p, q)) run.told stops.1)
-    (told_then _ _ _ sink sink_now sink_later (λ x y z p q. (p.0, q ∙ p.1, p.2)) run.given kept)
-    (λ all rest text is served. ran_to_limit input all rest text at nodes stops.0 is.0 is.1 is.2 served run.rests)
-take_stops left left_now left_later sink sink_now sink_later input at nodes stop.NoMemory before faults run stops kept =
-    assemble 6 left left_later sink sink_later (λ all rest. (more : List ℕ) × (all ≡ input ++ more)) (Serves false input (drop at input) root nodes)
-    (told_then _ _ _ left left_now left_later (λ x y z p q. (y, p)) run.told stops)
-    (told_then _ _ _ sink sink_now sink_later (λ x y z p q. (p.0, q ∙ p.1, p.2)) run.given kept)
-    (λ all rest text is served. ran_begun 6 input all is.0 rest text run.short is.1 (serves_begins false input (drop at input) root nodes text served) (inr refl))
+pub take_stops : (v w x : View) (input : List ℕ) (at : ℕ) (first state : State) (image image' : ℕ → List ℕ → Type 0) (s : Stop) (input_rose : Type 0)
+    → IsRunning v w input at first state → TakeStops s w.left x.left input input_rose → Kept w.sink x.sink → x.stamp ≡ w.stamp
+    → ((files : Files) → AreImages image files → Recovers files (Recovered state)) → LeavesOnly w.moment x.moment w.since x.since (Untouched image w.stamp x.stamp)
+    → Ends first (stop_status s) Never (over v x) image' v.left x.left v.sink x.sink
+take_stops v w x input at first state image image' stop.Syntax input_rose run stops kept same recovers untouched = absurd stops
+take_stops v w x input at first state image image' stop.Damaged input_rose run stops kept same recovers untouched = absurd stops
+take_stops v w x input at first state image image' stop.WriteFault input_rose run stops kept same recovers untouched = absurd stops
+take_stops v w x input at first state image image' stop.DiskFault input_rose run stops kept same recovers untouched = absurd stops
+take_stops v w x input at first state image image' stop.ReadFault input_rose run stops kept same recovers untouched =
+    assemble (Served false input (drop at input) first state (over v x)) 3 first v x image' (still_left v w x input run.told stops.0)
+    (so_far_untouched false input (drop at input) first state v w x image run.given kept same recovers untouched)
+    (λ all rest given is served. ran_to_read_fault first state (over v x) image' input all rest given at run.short is served run.rests)
+take_stops v w x input at first state image image' stop.TooLong input_rose run stops kept same recovers untouched =
+    assemble {P = λ all rest. (more : List ℕ) × (all ≡ input ++ more) × (0 < length more)} (Served false input (drop at input) first state (over v x)) 9 first v x image'
+    (told_both v.left w.left x.left run.told stops.1 (λ a b c p q. (b, p, q)))
+    (so_far_untouched false input (drop at input) first state v w x image run.given kept same recovers untouched)
+    (λ all rest given is served. ran_to_limit first state (over v x) image' input all rest given at stops.0 is.0 is.1 is.2 served run.rests)
+take_stops v w x input at first state image image' stop.NoMemory input_rose run stops kept same recovers untouched =
+    assemble {P = λ all rest. (more : List ℕ) × (all ≡ input ++ more)} (Served false input (drop at input) first state (over v x)) 6 first v x image'
+    (told_both v.left w.left x.left run.told stops (λ a b c p q. (b, p)))
+    (so_far_untouched false input (drop at input) first state v w x image run.given kept same recovers untouched)
+    (λ all rest given is served. ran_part 6 first (over v x) image' all rest given served.forms
+    (subst (λ (b : List ℕ). WholeBegins b served.forms) (sym is.1)
+    (whole_begins input is.0 served.forms run.short (reads_begins false input (drop at input) served.forms served.reads)))
+    ([], sym served.text ∙ sym (append-nil given)) served.crash (inr (inr refl)))
 
 -- ---- the input has ended
 
--- The input was these bytes.
+-- the input was these bytes
 abbrev pub HasEnded : Option (List ℕ) → Option (List ℕ) → List ℕ → Type 0
 HasEnded left left_now input = Told left left_now (λ all rest. (all ≡ input) × (rest ≡ []))
 
-pub ended : (left left_now left_later : Option (List ℕ)) (input : List ℕ) → Told left left_now (λ all rest. all ≡ input ++ rest)
-    → Told left_now left_later (λ a b. (a ≡ []) × (b ≡ [])) → HasEnded left left_later input
-ended left left_now left_later input told none =
-    told_then _ _ _ left left_now left_later (λ x y z p q. (p ∙ ap (λ (r : List ℕ). input ++ r) q.0 ∙ append-nil input, q.1)) told none
+-- The input has ended, and the lines that had come whole were answered.
+pub record AllCame (v w : View) (input : List ℕ) (at : ℕ) (first state : State) : Type 0 where
+  pub short : length input ≤ script_limit
+  pub given : SoFar false input (drop at input) first state (over v w) v.sink w.sink
+  pub ended : HasEnded v.left w.left input
 
-still_ended : (left left_now left_later : Option (List ℕ)) (input : List ℕ) → HasEnded left left_now input → Kept left_now left_later → HasEnded left left_later input
-still_ended left left_now left_later input told kept = told_then _ _ _ left left_now left_later (λ x y z p q. (p.0, q ∙ p.1)) told kept
+pub all_came : (v w x : View) (input input_after : List ℕ) (at : ℕ) (first state : State) (image : ℕ → List ℕ → Type 0)
+    → IsRunning v w input at first state → TakesMore piece.None w.left x.left input input_after → Kept w.sink x.sink → x.stamp ≡ w.stamp
+    → ((files : Files) → AreImages image files → Recovers files (Recovered state)) → LeavesOnly w.moment x.moment w.since x.since (Untouched image w.stamp x.stamp)
+    → AllCame v x input at first state
+all_came v w x input input_after at first state image run taken kept same recovers untouched = record {
+  short = run.short;
+  given = so_far_untouched false input (drop at input) first state v w x image run.given kept same recovers untouched;
+  ended = told_both v.left w.left x.left run.told taken.1 (λ a b c p q. (p ∙ ap (λ (r : List ℕ). input ++ r) q.0 ∙ append-nil input, q.1));
+}
 
-ran_to_end : (input all rest text others : List ℕ) (at next : ℕ) (nodes mid : List Node) → length input ≤ script_limit → all ≡ input → rest ≡ []
-    → Serves false input (drop at input) root nodes text → Serves true (drop at input) (drop next input) nodes mid others
-    → Session true (drop next input) mid [] AtEnd → Ran 0 all rest (text ++ others)
-ran_to_end input all rest text others at next nodes mid few is none first second rests =
-    let both = serves_then true input (drop at input) (drop next input) root nodes mid text others first second in
-    let last : Session true (drop next input ++ []) mid [] AtEnd = subst (λ (b : List ℕ). Session true b mid [] AtEnd) (sym (append-nil (drop next input))) rests in
-    let session : Session true input root (text ++ others) AtEnd =
-    subst (λ (b : List ℕ). Session true b root (text ++ others) AtEnd) (append-nil input)
-    (subst (λ (t : List ℕ). Session true (input ++ []) root t AtEnd) (append-nil (text ++ others)) (both.goes_on true [] [] AtEnd (refl, refl) last)) in
-    record {
-      text = text ++ others;
-      ending = AtEnd;
-      session = subst (λ (b : List ℕ). WholeSession b (text ++ others) AtEnd) (sym is) (whole_at_end input (text ++ others) AtEnd few session);
-      front = ([], sym (append-nil (text ++ others)));
-      how = inl refl;
-      done = λ e. (refl, none);
-      syntax = λ e. absurd (omega arith);
-      too_long = λ e. absurd (omega arith);
-      read_fault = λ e. absurd (omega arith);
-    }
+still_ended : (v w x : View) (input : List ℕ) → HasEnded v.left w.left input → Kept w.left x.left → HasEnded v.left x.left input
+still_ended v w x input told kept = told_both v.left w.left x.left told kept (λ a b c p q. (p.0, q ∙ p.1))
 
-pub finished : (left left_now left_later sink sink_now sink_later : Option (List ℕ)) (input : List ℕ) (at next : ℕ) (nodes mid : List Node)
-    → length input ≤ script_limit → SoFar false input (drop at input) root nodes sink sink_now → HasEnded left left_now input
-    → ServesTo true input at next nodes mid sink_now sink_later → Kept left_now left_later → Ends 0 left left_later sink sink_later
-finished left left_now left_later sink sink_now sink_later input at next nodes mid few so_far told served kept =
-    assemble 0 left left_later sink sink_later (λ all rest. (all ≡ input) × (rest ≡ []))
-    (λ given. (text : List ℕ) × (others : List ℕ) × (given ≡ text ++ others) × Serves false input (drop at input) root nodes text × Serves true (drop at input) (drop next input) nodes mid others)
-    (still_ended left left_now left_later input told kept)
-    (told_then _ _ _ sink sink_now sink_later (λ x y z p q.
-    (p.0 ++ q.0, q.1 ∙ ap (λ (t : List ℕ). t ++ q.0) p.1 ∙ append_assoc x p.0 q.0, (p.0, q.0, refl, p.2, q.2))) so_far served.given)
-    (λ all rest given is both. subst (Ran 0 all rest) (sym both.2)
-    (ran_to_end input all rest both.0 both.1 at next nodes mid few is.0 is.1 both.3 both.4 served.rests))
+script_to_end : (input rest : List ℕ) (forms : List Form) → Reads true input rest forms → Script true rest [] AtEnd → Script true input forms AtEnd
+script_to_end input rest forms reads rests =
+    let last : Script true (rest ++ []) [] AtEnd = subst (λ (b : List ℕ). Script true b [] AtEnd) (sym (append-nil rest)) rests in
+    subst (λ (b : List ℕ). Script true b forms AtEnd) (append-nil input)
+    (subst (λ (fs : List Form). Script true (input ++ []) fs AtEnd) (append-nil forms) (reads.goes_on true [] [] AtEnd (refl, refl) last))
 
-whole_at_true : (input : List ℕ) (text : List ℕ) (ending : Ending) → length input ≤ script_limit → EndsServing true input root text ending → WholeSession input text ending
-whole_at_true input text ending few served =
-    whole_at_end input text ending few (subst (λ (b : List ℕ). Session true b root text ending) (append-nil input) (served.session true [] (refl, refl)))
+-- a run to the end of the input
+ran_to_end : (first new : State) (span : Span) (image : ℕ → List ℕ → Type 0) (input all rest last given : List ℕ) → length input ≤ script_limit → all ≡ input → rest ≡ []
+    → Served true input last first new span given → Script true last [] AtEnd → ((files : Files) → AreImages image files → Recovers files (Recovered new))
+    → Ran first 0 Never span image all rest given
+ran_to_end first new span image input all rest last given few is none served rests recovers = record {
+  forms = served.forms;
+  ending = AtEnd;
+  script = subst (λ (b : List ℕ). WholeScript b served.forms AtEnd) (sym is) (whole_at_end input served.forms AtEnd few (script_to_end input last served.forms served.reads rests));
+  front = ([], sym served.text ∙ sym (append-nil given));
+  how = inl refl;
+  done = λ e. (served.text, none);
+  syntax = λ e. absurd (omega arith);
+  too_long = λ e. absurd (omega arith);
+  read_fault = λ e. absurd (omega arith);
+  crash = ran_crash_all first served.forms span served.crash;
+  last = λ e files images. subst (λ (t : State). Recovers files (Recovered t)) served.state (recovers files images);
+}
 
-ran_begun_at_end : (status : ℕ) (input all rest given : List ℕ) → length input ≤ script_limit → all ≡ input → BeginsServing true input root given
-    → ((status ≡ 4) ⊎ (status ≡ 6)) → Ran status all rest given
-ran_begun_at_end status input all rest given few is served which =
-    let session = served.session true [] (refl, refl) in
-    let whole : Session true input root session.0 session.1 = subst (λ (b : List ℕ). Session true b root session.0 session.1) (append-nil input) session.2 in
-    record {
-      text = session.0;
-      ending = session.1;
-      session = subst (λ (b : List ℕ). WholeSession b session.0 session.1) (sym is) (whole_at_end input session.0 session.1 few whole);
-      front = session.3;
-      how = inr (inr which);
-      done = λ e. absurd (elim which [ inl f ↦ omega arith | inr f ↦ omega arith ]);
-      syntax = λ e. absurd (elim which [ inl f ↦ omega arith | inr f ↦ omega arith ]);
-      too_long = λ e. absurd (elim which [ inl f ↦ omega arith | inr f ↦ omega arith ]);
-      read_fault = λ e. absurd (elim which [ inl f ↦ omega arith | inr f ↦ omega arith ]);
-    }
+pub finished : (v w x : View) (input : List ℕ) (at next : ℕ) (first state new : State) (image : ℕ → List ℕ → Type 0) → AllCame v w input at first state
+    → ServesTo true input at next state new (over w x) w.sink x.sink → Kept w.left x.left → ((files : Files) → AreImages image files → Recovers files (Recovered new))
+    → Ends first 0 Never (over v x) image v.left x.left v.sink x.sink
+finished v w x input at next first state new image came served kept recovers =
+    assemble (Served true input (drop next input) first new (over v x)) 0 first v x image (still_ended v w x input came.ended kept)
+    (joined (Served true input (drop next input) first new (over v x)) false input (drop at input) first state v w x came.given served.given (both_served true input (drop at input) (drop next input) first state new v w x))
+    (λ all rest given is done. ran_to_end first new (over v x) image input all rest (drop next input) given came.short is.0 is.1 done served.rests recovers)
 
-front_at_end : (status : ℕ) (left left_now left_later sink sink_now sink_later : Option (List ℕ)) (input : List ℕ) (at : ℕ) (nodes : List Node)
-    → ((status ≡ 4) ⊎ (status ≡ 6)) → length input ≤ script_limit → SoFar false input (drop at input) root nodes sink sink_now
-    → HasEnded left left_now input → GivesFront true (drop at input) nodes sink_now sink_later → Kept left_now left_later
-    → Ends status left left_later sink sink_later
-front_at_end status left left_now left_later sink sink_now sink_later input at nodes which few so_far told given kept =
-    assemble status left left_later sink sink_later (λ all rest. (all ≡ input) × (rest ≡ [])) (BeginsServing true input root)
-    (still_ended left left_now left_later input told kept)
-    (told_then _ _ _ sink sink_now sink_later (λ x y z p q. (
-      p.0 ++ q.0,
-      q.1 ∙ ap (λ (t : List ℕ). t ++ q.0) p.1 ∙ append_assoc x p.0 q.0,
-      begins_then true input (drop at input) root nodes p.0 q.0 p.2 q.2,
-    )) so_far given)
-    (λ all rest text is served. ran_begun_at_end status input all rest text few is.0 served which)
+part_at_end : (v w x : View) (input : List ℕ) (at : ℕ) (first state : State) (image : ℕ → List ℕ → Type 0) (status : ℕ) → IsCutLate status
+    → AllCame v w input at first state → Extends w.sink x.sink (ServedPart true (drop at input) state (over w x)) → Kept w.left x.left
+    → Ends first status Never (over v x) image v.left x.left v.sink x.sink
+part_at_end v w x input at first state image status late came served kept =
+    assemble (ServedPart true input first (over v x)) status first v x image (still_ended v w x input came.ended kept)
+    (joined (ServedPart true input first (over v x)) false input (drop at input) first state v w x came.given served (both_part true input (drop at input) first state v w x))
+    (λ all rest given is begun. ran_part status first (over v x) image all rest given begun.forms
+    (subst (λ (b : List ℕ). WholeBegins b begun.forms) (sym is.0) (whole_begins_true input begun.forms came.short begun.reads)) begun.front begun.crash late)
 
-pub finish_stops : (left left_now left_later sink sink_now sink_later : Option (List ℕ)) (input : List ℕ) (at : ℕ) (nodes : List Node) (s : Stop) (before faults : ℕ)
-    → length input ≤ script_limit → SoFar false input (drop at input) root nodes sink sink_now → HasEnded left left_now input
-    → ServeStops s true (drop at input) nodes sink_now sink_later before faults → Kept left_now left_later
-    → Ends (stop_status s) left left_later sink sink_later
-finish_stops left left_now left_later sink sink_now sink_later input at nodes stop.Syntax before faults few so_far told served kept =
-    assemble 2 left left_later sink sink_later (λ all rest. (all ≡ input) × (rest ≡ [])) (λ text. EndsServing true input root text AtFault)
-    (still_ended left left_now left_later input told kept)
-    (told_then _ _ _ sink sink_now sink_later (λ x y z p q. (
-      p.0 ++ q.0,
-      q.1 ∙ ap (λ (t : List ℕ). t ++ q.0) p.1 ∙ append_assoc x p.0 q.0,
-      ends_then true input (drop at input) root nodes p.0 q.0 AtFault p.2 q.2,
-    )) so_far served)
-    (λ all rest text is ended. ran_to_fault input all rest text
-    (subst (λ (b : List ℕ). WholeSession b text AtFault) (sym is.0) (whole_at_true input text AtFault few ended)))
-finish_stops left left_now left_later sink sink_now sink_later input at nodes stop.ReadFault before faults few so_far told served kept = absurd served
-finish_stops left left_now left_later sink sink_now sink_later input at nodes stop.TooLong before faults few so_far told served kept = absurd served
-finish_stops left left_now left_later sink sink_now sink_later input at nodes stop.WriteFault before faults few so_far told served kept =
-    front_at_end 4 left left_now left_later sink sink_now sink_later input at nodes (inl refl) few so_far told served.0 kept
-finish_stops left left_now left_later sink sink_now sink_later input at nodes stop.NoMemory before faults few so_far told served kept =
-    front_at_end 6 left left_now left_later sink sink_now sink_later input at nodes (inr refl) few so_far told served kept
+pub finish_stops : (v w x : View) (input : List ℕ) (at : ℕ) (first state : State) (image : ℕ → List ℕ → Type 0) (s : Stop) (sink_rose disk_rose : Type 0)
+    → AllCame v w input at first state → ServeStops s true (drop at input) state (over w x) w.sink x.sink sink_rose disk_rose → Kept w.left x.left
+    → Ends first (stop_status s) Never (over v x) image v.left x.left v.sink x.sink
+finish_stops v w x input at first state image stop.Syntax sink_rose disk_rose came served kept =
+    assemble (ServedToFault true input first (over v x)) 2 first v x image (still_ended v w x input came.ended kept)
+    (joined (ServedToFault true input first (over v x)) false input (drop at input) first state v w x came.given served (both_to_fault true input (drop at input) first state v w x))
+    (λ all rest given is ended. ran_to_fault first (over v x) image all rest given ended.forms
+    (subst (λ (b : List ℕ). WholeScript b ended.forms AtFault) (sym is.0) (whole_at_true input ended.forms AtFault came.short ended.reads)) ended.text ended.crash)
+finish_stops v w x input at first state image stop.Damaged sink_rose disk_rose came served kept = absurd served
+finish_stops v w x input at first state image stop.ReadFault sink_rose disk_rose came served kept = absurd served
+finish_stops v w x input at first state image stop.TooLong sink_rose disk_rose came served kept = absurd served
+finish_stops v w x input at first state image stop.WriteFault sink_rose disk_rose came served kept = part_at_end v w x input at first state image 4 (inl refl) came served.0 kept
+finish_stops v w x input at first state image stop.DiskFault sink_rose disk_rose came served kept = part_at_end v w x input at first state image 5 (inr (inl refl)) came served.0 kept
+finish_stops v w x input at first state image stop.NoMemory sink_rose disk_rose came served kept = part_at_end v w x input at first state image 6 (inr (inr refl)) came served kept
 
--- memory ran out before anything was done
-pub nothing_done : (left sink : Option (List ℕ)) → Ends 6 left left sink sink
-nothing_done left sink =
-    assemble 6 left left sink sink (λ all rest. all ≡ [] ++ rest) (BeginsServing false [] root)
-    (told_same _ left (λ a. refl))
-    (told_same _ sink (λ a. ([], sym (append-nil a), serves_begins false [] [] root root [] (serves_starts false [] root))))
-    (λ all rest text is served. ran_begun 6 [] all rest rest text (omega arith) is served (inr refl))
+-- ---- which count rose
 
--- ---- the counts
+pub take_rose : (s : Stop) (left left_after : Option (List ℕ)) (input : List ℕ) (input_rose rose : Type 0) → TakeStops s left left_after input input_rose
+    → (input_rose → rose) → s ≡ stop.ReadFault → rose
+take_rose stop.Syntax left left_after input input_rose rose stops is e = absurd stops
+take_rose stop.Damaged left left_after input input_rose rose stops is e = absurd stops
+take_rose stop.WriteFault left left_after input input_rose rose stops is e = absurd stops
+take_rose stop.DiskFault left left_after input input_rose rose stops is e = absurd stops
+take_rose stop.ReadFault left left_after input input_rose rose stops is e = is stops.1
+take_rose stop.TooLong left left_after input input_rose rose stops is e = absurd cc
+take_rose stop.NoMemory left left_after input input_rose rose stops is e = absurd cc
 
-pub take_reads : (s : Stop) (left left_after : Option (List ℕ)) (input : List ℕ) (first before faults : ℕ) → TakeStops s left left_after input before faults
-    → before ≡ first → s ≡ stop.ReadFault → Rose first faults
-take_reads stop.Syntax left left_after input first before faults stops same e = absurd stops
-take_reads stop.WriteFault left left_after input first before faults stops same e = absurd stops
-take_reads stop.ReadFault left left_after input first before faults stops same e = rw (← same) stops.1
-take_reads stop.TooLong left left_after input first before faults stops same e = absurd cc
-take_reads stop.NoMemory left left_after input first before faults stops same e = absurd cc
+-- taking a piece stops for no other reason
+pub take_reason : (s : Stop) (left left_after : Option (List ℕ)) (input : List ℕ) (input_rose : Type 0) → TakeStops s left left_after input input_rose
+    → (s ≡ stop.ReadFault) ⊎ ((s ≡ stop.TooLong) ⊎ (s ≡ stop.NoMemory))
+take_reason stop.Syntax left left_after input input_rose stops = absurd stops
+take_reason stop.Damaged left left_after input input_rose stops = absurd stops
+take_reason stop.WriteFault left left_after input input_rose stops = absurd stops
+take_reason stop.DiskFault left left_after input input_rose stops = absurd stops
+take_reason stop.ReadFault left left_after input input_rose stops = inl refl
+take_reason stop.TooLong left left_after input input_rose stops = inr (inl refl)
+take_reason stop.NoMemory left left_after input input_rose stops = inr (inr refl)
 
-pub take_writes : (s : Stop) (left left_after : Option (List ℕ)) (input : List ℕ) (before faults : ℕ) → TakeStops s left left_after input before faults → s ≡ stop.WriteFault → ⊥
-take_writes stop.Syntax left left_after input before faults stops e = stops
-take_writes stop.WriteFault left left_after input before faults stops e = stops
-take_writes stop.ReadFault left left_after input before faults stops e = absurd cc
-take_writes stop.TooLong left left_after input before faults stops e = absurd cc
-take_writes stop.NoMemory left left_after input before faults stops e = absurd cc
+-- Why serving stopped, with the counts that rose.
+pub record ServeRose (s : Stop) (sink_rose disk_rose : Type 0) : Type 0 where
+  pub sink : s ≡ stop.WriteFault → sink_rose
+  pub disk : s ≡ stop.DiskFault → disk_rose
+  pub input : s ≡ stop.ReadFault → ⊥
+  pub files : s ≡ stop.Damaged → ⊥
 
-pub serve_reads : (s : Stop) (is_end : Bool) (bytes : List ℕ) (nodes : List Node) (sink sink_after : Option (List ℕ)) (before faults : ℕ)
-    → ServeStops s is_end bytes nodes sink sink_after before faults → s ≡ stop.ReadFault → ⊥
-serve_reads stop.Syntax is_end bytes nodes sink sink_after before faults stops e = absurd cc
-serve_reads stop.ReadFault is_end bytes nodes sink sink_after before faults stops e = stops
-serve_reads stop.WriteFault is_end bytes nodes sink sink_after before faults stops e = absurd cc
-serve_reads stop.TooLong is_end bytes nodes sink sink_after before faults stops e = absurd cc
-serve_reads stop.NoMemory is_end bytes nodes sink sink_after before faults stops e = absurd cc
-
-pub serve_writes : (s : Stop) (is_end : Bool) (bytes : List ℕ) (nodes : List Node) (sink sink_after : Option (List ℕ)) (first before faults : ℕ)
-    → ServeStops s is_end bytes nodes sink sink_after before faults → before ≡ first → s ≡ stop.WriteFault → Rose first faults
-serve_writes stop.Syntax is_end bytes nodes sink sink_after first before faults stops same e = absurd cc
-serve_writes stop.ReadFault is_end bytes nodes sink sink_after first before faults stops same e = absurd stops
-serve_writes stop.WriteFault is_end bytes nodes sink sink_after first before faults stops same e = rw (← same) stops.1
-serve_writes stop.TooLong is_end bytes nodes sink sink_after first before faults stops same e = absurd stops
-serve_writes stop.NoMemory is_end bytes nodes sink sink_after first before faults stops same e = absurd cc
-
-pub so_far_kept : (input : List ℕ) (at : ℕ) (nodes : List Node) (sink sink_now sink_later : Option (List ℕ))
-    → SoFar false input (drop at input) root nodes sink sink_now → Kept sink_now sink_later → SoFar false input (drop at input) root nodes sink sink_later
-so_far_kept input at nodes sink sink_now sink_later so_far kept =
-    told_then _ _ _ sink sink_now sink_later (λ x y z p q. (p.0, q ∙ p.1, p.2)) so_far kept
+pub serve_rose : (s : Stop) (is_end : Bool) (bytes : List ℕ) (state : State) (span : Span) (sink sink_after : Option (List ℕ)) (sink_rose disk_rose : Type 0)
+    → ServeStops s is_end bytes state span sink sink_after sink_rose disk_rose → ServeRose s sink_rose disk_rose
+serve_rose stop.Syntax is_end bytes state span sink sink_after sink_rose disk_rose stops = record { sink = λ e. absurd cc; disk = λ e. absurd cc; input = λ e. absurd cc; files = λ e. absurd cc }
+serve_rose stop.Damaged is_end bytes state span sink sink_after sink_rose disk_rose stops = absurd stops
+serve_rose stop.ReadFault is_end bytes state span sink sink_after sink_rose disk_rose stops = absurd stops
+serve_rose stop.TooLong is_end bytes state span sink sink_after sink_rose disk_rose stops = absurd stops
+serve_rose stop.WriteFault is_end bytes state span sink sink_after sink_rose disk_rose stops = record { sink = λ e. stops.1; disk = λ e. absurd cc; input = λ e. absurd cc; files = λ e. absurd cc }
+serve_rose stop.DiskFault is_end bytes state span sink sink_after sink_rose disk_rose stops = record { sink = λ e. absurd cc; disk = λ e. stops.1; input = λ e. absurd cc; files = λ e. absurd cc }
+serve_rose stop.NoMemory is_end bytes state span sink sink_after sink_rose disk_rose stops = record { sink = λ e. absurd cc; disk = λ e. absurd cc; input = λ e. absurd cc; files = λ e. absurd cc }

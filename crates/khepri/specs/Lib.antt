@@ -1,6 +1,12 @@
 pub mod Tree
 pub mod Machine
+pub mod Command
+pub mod State
+pub mod Recovery
+pub mod Store
+pub mod Opening
 pub mod Output
+pub mod Script
 pub mod Session
 pub mod Line
 pub mod Serving

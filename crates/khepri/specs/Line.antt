@@ -4,7 +4,7 @@ use Rattle.kh_read.specs.declared.form.Form.{Form}
 use Rattle.kh_read.specs.Reading.{Cut, Fault}
 use Rattle.khepri.specs.declared.line.Line.{Line}
 use Rattle.khepri.specs.declared.line.Line.TheVariants as line
-use Rattle.khepri.specs.Session.{line_at, behind_form}
+use Rattle.khepri.specs.Script.{line_at, behind_form}
 
 -- what stands at a place
 abbrev pub ReadsLine : Bool → List ℕ → ℕ → Line → Type 0

@@ -1,67 +1,123 @@
 -- What a whole run does.
-use Rattle.std.specs.Prelude.{◌≡◌, ℕ, ◌-◌, ◌<◌, ◌^◌, ◌⊎◌, List, [], ◌++◌, Option, Result, Ok, Err}
-use Rattle.kh_io.specs.Told.{Told, Extends, IsFrontOf}
+use Rattle.std.specs.Prelude.{◌≡◌, ℕ, ◌-◌, ◌<◌, ◌^◌, ◌⊎◌, codes, List, [], ◌∷◌, ◌++◌, Option, Result, Ok, Err, ℤ, pos}
+use Rattle.kh_term.specs.declared.tree.TermTree.{TermTree}
+use Rattle.kh_term.specs.declared.tree.TermTree.TheVariants as tree
+use Rattle.kh_io.specs.declared.files.Files.{Files}
+use Rattle.kh_io.specs.Told.{Told, Kept, Extends, IsFrontOf}
+use Rattle.kh_io.specs.Disk.{AreImages, LeavesOnly}
+use Rattle.kh_text_defs.specs.Shown.{shown_line}
+use Rattle.kh_read.specs.declared.form.Form.{Form}
 use Rattle.khepri.specs.declared.session.Stop.{Stop}
 use Rattle.khepri.specs.declared.session.Stop.TheVariants as stop
-use Rattle.khepri.specs.Session.{Ending, AtEnd, AtFault, Unfinished, WholeSession, FrontSession}
+use Rattle.khepri.specs.Machine.{word}
+use Rattle.khepri.specs.State.{State, state_after, text_of}
+use Rattle.khepri.specs.Recovery.{Recovery, Recovered, Damaged, Recovers}
+use Rattle.khepri.specs.Script.{Ending, AtEnd, AtFault, Unfinished, WholeScript, FrontScript}
+use Rattle.khepri.specs.Session.{KeepsAnswered}
+use Rattle.khepri.specs.Serving.{Span}
 
 -- the status of a run that ended early
 abbrev pub stop_status : Stop → ℕ
+stop_status stop.Damaged = 1
 stop_status stop.Syntax = 2
 stop_status stop.ReadFault = 3
 stop_status stop.WriteFault = 4
+stop_status stop.DiskFault = 5
 stop_status stop.NoMemory = 6
 stop_status stop.TooLong = 9
-
--- the status that says how a session ends
-abbrev pub ending_status : Ending → ℕ
-ending_status AtEnd = 0
-ending_status AtFault = 2
-ending_status Unfinished = 9
-
--- The status says how the session ends, or that a read or a write failed, or that memory ran out.
-abbrev pub EndsAs : ℕ → Ending → Type 0
-EndsAs status ending = (status ≡ ending_status ending) ⊎ ((status ≡ 3) ⊎ ((status ≡ 4) ⊎ (status ≡ 6)))
-
--- A run over this input, of which this rest wasn't taken, gave these bytes: a front of what the session of the input gives.
-pub record Ran (status : ℕ) (input rest given : List ℕ) : Type 0 where
-  pub text : List ℕ
-  pub ending : Ending
-  pub session : WholeSession input text ending
-  pub front : IsFrontOf given text
-  pub how : EndsAs status ending
-  -- 0: all was read and answered
-  pub done : status ≡ 0 → (given ≡ text) × (rest ≡ [])
-  -- 2 and 9: what is before the fault, and before the limit, was answered
-  pub syntax : status ≡ 2 → given ≡ text
-  pub too_long : status ≡ 9 → given ≡ text
-  -- 3: the lines that had come whole were answered
-  pub read_fault : status ≡ 3 → (taken : List ℕ) × (input ≡ taken ++ rest) × FrontSession taken given Unfinished
 
 -- the status of a run
 abbrev pub run_status : Result (Unit {0}) Stop → ℕ
 run_status (Ok done) = 0
 run_status (Err why) = stop_status why
 
--- What a run gives, where the host tells its input and what the sink has taken.
-abbrev pub Ends : ℕ → (left left_after sink sink_after : Option (List ℕ)) → Type 0
-Ends status left left_after sink sink_after = Told left left_after (λ input rest. Extends sink sink_after (Ran status input rest))
+-- the status that says how a script ends
+abbrev pub ending_status : Ending → ℕ
+ending_status AtEnd = 0
+ending_status AtFault = 2
+ending_status Unfinished = 9
 
--- No count of faults has risen, and none is at the end of its type.
-pub record NoFaults (reads reads_after writes writes_after : ℕ) : Type 0 where
-  pub no_read : reads_after ≡ reads
-  pub no_write : writes_after ≡ writes
-  pub read_room : reads_after < 2 ^ 64 - 1
-  pub write_room : writes_after < 2 ^ 64 - 1
+-- a read, a write or a call of the disk failed, or memory ran out
+abbrev pub IsCutOff : ℕ → Type 0
+IsCutOff status = (status ≡ 3) ⊎ ((status ≡ 4) ⊎ ((status ≡ 5) ⊎ (status ≡ 6)))
 
--- The status says how the session of the input ends, unless memory ran out: 0 at the end, 2 at bytes that are no form, 9 past
--- the limit.
-abbrev pub TellsEnding : ℕ → (left left_after sink sink_after : Option (List ℕ)) → Type 0
-TellsEnding status left left_after sink sink_after = Told left left_after (λ input rest. Told sink sink_after (λ a b.
-    (text : List ℕ) (ending : Ending) → WholeSession input text ending → (status ≡ 6) ⊎ (status ≡ ending_status ending)))
+-- what a crash at entry might have left, with the stamp of entry
+abbrev pub AtEntry : (ℕ → List ℕ → Type 0) → ℕ → Files → ℕ → Type 0
+AtEntry image given files s = AreImages image files × (s ≡ given)
 
--- Each input has a session, and no two.
-pub record OneSession : Type 0 where
-  pub some : (input : List ℕ) → (text : List ℕ) × (ending : Ending) × WholeSession input text ending
-  pub one : (input text other : List ℕ) (ending last : Ending) → WholeSession input text ending → WholeSession input other last
-      → (text ≡ other) × (ending ≡ last)
+-- nothing
+abbrev pub Never : Files → ℕ → Type 0
+Never files s = ⊥
+
+-- A run from a state on over this input, of which this rest wasn't taken, gave these bytes: a front of the replies to the
+-- commands of the input. One list of commands serves the text and what a crash leaves.
+pub record Ran (first : State) (status : ℕ) (entry : Files → ℕ → Type 0) (span : Span) (image : ℕ → List ℕ → Type 0) (input rest given : List ℕ) : Type 0 where
+  pub forms : List Form
+  pub ending : Ending
+  pub script : WholeScript input forms ending
+  pub front : IsFrontOf given (text_of forms first)
+  -- the status says how the script ends, or why the run was cut off
+  pub how : (status ≡ ending_status ending) ⊎ IsCutOff status
+  -- 0: all was read and answered
+  pub done : status ≡ 0 → (given ≡ text_of forms first) × (rest ≡ [])
+  -- 2 and 9: what is before the fault, and before the limit, was answered
+  pub syntax : status ≡ 2 → given ≡ text_of forms first
+  pub too_long : status ≡ 9 → given ≡ text_of forms first
+  -- 3: the lines that had come whole were answered
+  pub read_fault : status ≡ 3 → (taken : List ℕ) × (come : List Form) × (input ≡ taken ++ rest) × FrontScript taken come Unfinished
+      × (given ≡ text_of come first)
+  -- a crash at any moment of the run: before the opening has done anything, or with every command that was answered
+  pub crash : LeavesOnly span.from span.to span.past span.since (λ files s. entry files s ⊎ KeepsAnswered first forms span.stamp files s)
+  -- 0: a crash from then on leaves the state after all commands
+  pub last : status ≡ 0 → (files : Files) → AreImages image files → Recovers files (Recovered (state_after forms first))
+
+-- what a run gives, where the host tells its input and what the sink has taken
+abbrev pub Ends : State → ℕ → (Files → ℕ → Type 0) → Span → (ℕ → List ℕ → Type 0) → (left left_after sink sink_after : Option (List ℕ)) → Type 0
+Ends first status entry span image left left_after sink sink_after =
+    Told left left_after (λ input rest. Extends sink sink_after (Ran first status entry span image input rest))
+
+-- `{damaged,File,Offset}`
+abbrev pub damage_tree : ℕ → ℕ → TermTree
+damage_tree file offset = tree.Tuple (word (codes "damaged") ∷ tree.Int (pos file) ∷ tree.Int (pos offset) ∷ [])
+
+-- its line
+abbrev pub damage_line : ℕ → ℕ → List ℕ
+damage_line file offset = shown_line (damage_tree file offset)
+
+-- A run over damaged files takes no input and gives the line that says where they are damaged, or a front of it. A read of the files
+-- gives what it gave, and a crash leaves what it might have left at entry.
+pub record Reports (file offset status : ℕ) (span : Span) (image : ℕ → List ℕ → Type 0) (seen seen' : ℕ → Option (List ℕ)) (left left_after sink sink_after : Option (List ℕ)) : Type 0 where
+  pub line : Extends sink sink_after (λ given. IsFrontOf given (damage_line file offset) × (status ≡ 1 → given ≡ damage_line file offset))
+  pub input : Kept left left_after
+  pub reads : (this : ℕ) → this < 4 → Kept (seen this) (seen' this)
+  pub crash : LeavesOnly span.from span.to span.past span.since (λ files s. AreImages image files)
+  pub how : (status ≡ 1) ⊎ IsCutOff status
+
+-- what a run does by what the files at entry recover to
+abbrev pub Runs : Recovery → ℕ → Span → (image image' : ℕ → List ℕ → Type 0) → (seen seen' : ℕ → Option (List ℕ)) → (left left_after sink sink_after : Option (List ℕ)) → Type 0
+Runs (Recovered first) status span image image' seen seen' left left_after sink sink_after =
+    Ends first status (AtEntry image span.stamp) span image' left left_after sink sink_after
+Runs (Damaged file offset) status span image image' seen seen' left left_after sink sink_after =
+    Reports file offset status span image seen seen' left left_after sink sink_after
+
+-- these files are damaged
+abbrev pub FindsDamage : Files → Type 0
+FindsDamage files = (file : ℕ) × (offset : ℕ) × Recovers files (Damaged file offset)
+
+-- a count that hasn't risen, and isn't at the end of its type
+pub record Stood (old new : ℕ) : Type 0 where
+  pub same : new ≡ old
+  pub room : new < 2 ^ 64 - 1
+
+-- The status says how the run ends, unless memory ran out: 1 where the files are damaged, else 0 at the end of the script, 2 at bytes
+-- that are no form, 9 past the limit.
+abbrev pub TellsEnding : ℕ → Recovery → (left left_after sink sink_after : Option (List ℕ)) → Type 0
+TellsEnding status (Recovered first) left left_after sink sink_after = Told left left_after (λ input rest. Told sink sink_after (λ a b.
+    (forms : List Form) (ending : Ending) → WholeScript input forms ending → (status ≡ 6) ⊎ (status ≡ ending_status ending)))
+TellsEnding status (Damaged file offset) left left_after sink sink_after = (status ≡ 6) ⊎ (status ≡ 1)
+
+-- Each input has a list of commands and an ending, and no two.
+pub record OneScript : Type 0 where
+  pub some : (input : List ℕ) → (forms : List Form) × (ending : Ending) × WholeScript input forms ending
+  pub one : (input : List ℕ) (forms others : List Form) (ending last : Ending) → WholeScript input forms ending → WholeScript input others last
+      → (forms ≡ others) × (ending ≡ last)

@@ -1,39 +1,71 @@
--- What answering forms does to the tree and the sink.
-use Rattle.std.specs.Prelude.{◌≡◌, ℕ, ◌≤◌, Bool, List, [], ◌++◌, length, drop, Option}
-use Rattle.kh_io.specs.Told.{Told, Rose}
+-- What answering the forms of a script does.
+use Rattle.std.specs.Prelude.{◌≡◌, ℕ, ◌≤◌, Bool, List, [], length, drop, Option}
+use Rattle.kh_io.specs.declared.files.Files.{Files}
+use Rattle.kh_io.specs.Told.{Extends, IsFrontOf}
+use Rattle.kh_io.specs.Disk.{LeavesOnly}
+use Rattle.kh_read.specs.declared.form.Form.{Form}
 use Rattle.khepri.specs.declared.session.Stop.{Stop}
 use Rattle.khepri.specs.declared.session.Stop.TheVariants as stop
-use Rattle.khepri.specs.Tree.{Node}
-use Rattle.khepri.specs.Session.{AtFault, all_read, Session, Serves, EndsServing, BeginsServing}
+use Rattle.khepri.specs.State.{State, state_after, text_of}
+use Rattle.khepri.specs.Script.{Ending, AtFault, all_read, Script, Reads, EndsReading, BeginsReading}
+use Rattle.khepri.specs.Session.{HasPrefix}
 
--- why a form wasn't answered: the sink's count of faults rose, or memory ran out
-abbrev pub AnswerStops : Stop → ℕ → ℕ → Type 0
-AnswerStops stop.WriteFault old new = Rose old new
-AnswerStops stop.NoMemory old new = Unit {0}
-AnswerStops stop.Syntax old new = ⊥
-AnswerStops stop.ReadFault old new = ⊥
-AnswerStops stop.TooLong old new = ⊥
+-- why a form wasn't answered: the sink's count of faults rose, the disk's did, or memory ran out
+abbrev pub AnswerStops : Stop → (sink_rose disk_rose : Type 0) → Type 0
+AnswerStops stop.WriteFault sink_rose disk_rose = sink_rose
+AnswerStops stop.DiskFault sink_rose disk_rose = disk_rose
+AnswerStops stop.NoMemory sink_rose disk_rose = Unit {0}
+AnswerStops stop.Syntax sink_rose disk_rose = ⊥
+AnswerStops stop.Damaged sink_rose disk_rose = ⊥
+AnswerStops stop.ReadFault sink_rose disk_rose = ⊥
+AnswerStops stop.TooLong sink_rose disk_rose = ⊥
+
+-- A span of a run: the stamp and the moment at its start and the moment at its end, and what a crash since a moment might have left.
+pub record Span : Type 1 where
+  pub stamp : ℕ
+  pub from : ℕ
+  pub to : ℕ
+  pub past : ℕ → Files → ℕ → Type 0
+  pub since : ℕ → Files → ℕ → Type 0
+
+-- Over the span a crash leaves the state after some of these commands.
+abbrev pub KeepsPrefix : Span → State → List Form → Type 0
+KeepsPrefix span first forms = LeavesOnly span.from span.to span.past span.since (HasPrefix first forms span.stamp)
+
+-- Over the span, the forms from the first bytes to the second were answered whole.
+pub record Served (is_end : Bool) (bytes left : List ℕ) (old new : State) (span : Span) (given : List ℕ) : Type 0 where
+  pub forms : List Form
+  pub reads : Reads is_end bytes left forms
+  pub text : given ≡ text_of forms old
+  pub state : new ≡ state_after forms old
+  pub crash : KeepsPrefix span old forms
+
+-- Over the span, the forms up to the first bytes that are no form were answered whole, and no others.
+pub record ServedToFault (is_end : Bool) (bytes : List ℕ) (old : State) (span : Span) (given : List ℕ) : Type 0 where
+  pub forms : List Form
+  pub reads : EndsReading is_end bytes forms AtFault
+  pub text : given ≡ text_of forms old
+  pub crash : KeepsPrefix span old forms
+
+-- Over the span, forms were executed, and a front of their replies was given.
+pub record ServedPart (is_end : Bool) (bytes : List ℕ) (old : State) (span : Span) (given : List ℕ) : Type 0 where
+  pub forms : List Form
+  pub reads : BeginsReading is_end bytes forms
+  pub front : IsFrontOf given (text_of forms old)
+  pub crash : KeepsPrefix span old forms
 
 -- The lines from a place on were answered up to another place, behind which no whole line is left.
-pub record ServesTo (is_end : Bool) (input : List ℕ) (at next : ℕ) (old new : List Node) (sink sink_after : Option (List ℕ)) : Type 0 where
+pub record ServesTo (is_end : Bool) (input : List ℕ) (at next : ℕ) (old new : State) (span : Span) (sink sink_after : Option (List ℕ)) : Type 0 where
   pub within : next ≤ length input
-  pub given : Told sink sink_after (λ a b. (text : List ℕ) × (b ≡ a ++ text) × Serves is_end (drop at input) (drop next input) old new text)
-  pub rests : Session is_end (drop next input) new [] (all_read is_end)
-
--- The replies up to the first bytes that are no form were given, and no others.
-abbrev pub GivesToFault : Bool → List ℕ → List Node → Option (List ℕ) → Option (List ℕ) → Type 0
-GivesToFault is_end bytes nodes sink sink_after =
-    Told sink sink_after (λ a b. (text : List ℕ) × (b ≡ a ++ text) × EndsServing is_end bytes nodes text AtFault)
-
--- What was given is a front of what a session gives.
-abbrev pub GivesFront : Bool → List ℕ → List Node → Option (List ℕ) → Option (List ℕ) → Type 0
-GivesFront is_end bytes nodes sink sink_after =
-    Told sink sink_after (λ a b. (text : List ℕ) × (b ≡ a ++ text) × BeginsServing is_end bytes nodes text)
+  pub given : Extends sink sink_after (Served is_end (drop at input) (drop next input) old new span)
+  pub rests : Script is_end (drop next input) [] (all_read is_end)
 
 -- why answering ended early, and what was given by then
-abbrev pub ServeStops : Stop → Bool → List ℕ → List Node → Option (List ℕ) → Option (List ℕ) → ℕ → ℕ → Type 0
-ServeStops stop.Syntax is_end bytes nodes sink sink_after old new = GivesToFault is_end bytes nodes sink sink_after
-ServeStops stop.WriteFault is_end bytes nodes sink sink_after old new = GivesFront is_end bytes nodes sink sink_after × Rose old new
-ServeStops stop.NoMemory is_end bytes nodes sink sink_after old new = GivesFront is_end bytes nodes sink sink_after
-ServeStops stop.ReadFault is_end bytes nodes sink sink_after old new = ⊥
-ServeStops stop.TooLong is_end bytes nodes sink sink_after old new = ⊥
+abbrev pub ServeStops : Stop → Bool → List ℕ → State → Span → Option (List ℕ) → Option (List ℕ) → (sink_rose disk_rose : Type 0) → Type 0
+ServeStops stop.Syntax is_end bytes old span sink sink_after sink_rose disk_rose = Extends sink sink_after (ServedToFault is_end bytes old span)
+ServeStops stop.WriteFault is_end bytes old span sink sink_after sink_rose disk_rose = Extends sink sink_after (ServedPart is_end bytes old span) × sink_rose
+ServeStops stop.DiskFault is_end bytes old span sink sink_after sink_rose disk_rose = Extends sink sink_after (ServedPart is_end bytes old span) × disk_rose
+ServeStops stop.NoMemory is_end bytes old span sink sink_after sink_rose disk_rose = Extends sink sink_after (ServedPart is_end bytes old span)
+ServeStops stop.Damaged is_end bytes old span sink sink_after sink_rose disk_rose = ⊥
+ServeStops stop.ReadFault is_end bytes old span sink sink_after sink_rose disk_rose = ⊥
+ServeStops stop.TooLong is_end bytes old span sink sink_after sink_rose disk_rose = ⊥

@@ -1,5 +1,5 @@
 -- The tree: a finite map from paths to data or none, as its entries in the order of paths.
-use Rattle.std.specs.Prelude.{ℕ, zero, suc, ℤ, is_some, List, [], ◌∷◌, ◌++◌, length, take, Option, Some, None, if◌then◌else◌}
+use Rattle.std.specs.Prelude.{ℕ, zero, suc, ℤ, ◌+◌, Bool, nat_le, is_some, List, [], ◌∷◌, ◌++◌, length, take, Option, Some, None, if◌then◌else◌}
 use Rattle.std.specs.BTreeMap.{insert_entry, is_at}
 use Rattle.std.specs.Map.{lookup}
 use Rattle.kh_term.specs.declared.name.Name.{Name}
@@ -34,6 +34,22 @@ abbrev pub with_nodes : List Node → List (List Name) → List Node
 with_nodes tree [] = tree
 with_nodes tree (path ∷ paths) = with_nodes (with_node tree path) paths
 
+-- the tree with this data at a path, and with a node at each of these
+abbrev pub with_data : List Node → List (List Name) → List Name → ℤ → List Node
+with_data tree paths path number = insert_entry path_cmp (with_nodes tree paths) path (Some number)
+
 -- the tree with this data at a path, and each node above it
 abbrev pub put : List Node → List Name → ℤ → List Node
-put tree path number = insert_entry path_cmp (with_nodes tree (parents_of path)) path (Some number)
+put tree path number = with_data tree (parents_of path) path number
+
+-- the greatest number of nodes without the root
+abbrev pub node_limit : ℕ
+node_limit = 200000
+
+-- no more nodes than there may be
+abbrev pub fits : List Node → Bool
+fits tree = nat_le (length tree) (node_limit + 1)
+
+-- whether a tree has room for the nodes of a put
+abbrev pub has_room : List Node → List Name → ℤ → Bool
+has_room tree path number = fits (put tree path number)

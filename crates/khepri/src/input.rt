@@ -1,7 +1,9 @@
 //! The input comes in pieces.
 ghost use Rattle.std.specs.Prelude.{◌≡◌, ◌<◌, ◌≤◌, length, IfOk, IfErr, OnErr, OnOk};
-ghost use Rattle.kh_io.specs.Told.{Kept};
+ghost use Rattle.kh_io.specs.Told.{Kept, Rose};
+ghost use Rattle.kh_io.specs.Disk.{FilesStay, LeavesOnly};
 ghost use Rattle.khepri.specs.Input.{TakesMore, TakeStops};
+ghost use Rattle.khepri.specs.Session.{Untouched};
 
 use crate::session::Stop;
 use kh_io::Host;
@@ -27,11 +29,16 @@ pub fn take_more<H: Host>(
     requires some { 0 < length buffer.old }
     requires short { length input.old.items ≤ SCRIPT_LIMIT }
     ensures taken { IfOk result (λ piece. TakesMore piece (H.left host.old) (H.left host.new) input.old.items input.new.items) }
-    ensures stops { IfErr result (λ stop. TakeStops stop (H.left host.old) (H.left host.new) input.old.items (H.read_faults host.old) (H.read_faults host.new)) }
+    ensures stops { IfErr result (λ stop. TakeStops stop (H.left host.old) (H.left host.new) input.old.items (Rose (H.read_faults host.old) (H.read_faults host.new))) }
     ensures kept { OnErr result (input.new.items ≡ input.old.items) }
     ensures no_fault { OnOk result (H.read_faults host.new ≡ H.read_faults host.old) }
     ensures sink { Kept (H.given host.old) (H.given host.new) }
-    ensures other_faults { H.write_faults host.new ≡ H.write_faults host.old }
+    ensures files { FilesStay (H.seen host.old) (H.seen host.new) (H.image host.old) (H.image host.new) }
+    ensures any_moment { LeavesOnly (H.moment host.old) (H.moment host.new) (H.left_since host.old) (H.left_since host.new)
+        (Untouched (H.image host.old) (H.stamp host.old) (H.stamp host.new)) }
+    ensures stamp { H.stamp host.new ≡ H.stamp host.old }
+    ensures write_faults { H.write_faults host.new ≡ H.write_faults host.old }
+    ensures disk_faults { H.disk_faults host.new ≡ H.disk_faults host.old }
 {
     let room = SCRIPT_LIMIT - input.len();
     let want = room.min(buffer.len()).max(1);

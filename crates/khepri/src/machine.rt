@@ -2,32 +2,75 @@
 ghost use Rattle.std.specs.Prelude.{◌≡◌, ℤ, List, Option, IfOk, OnOk, OnErr, codes, [], ◌∷◌, ◌≤◌, length};
 ghost use Rattle.kh_term.specs.declared.tree.TermTree.TheVariants as tree;
 ghost use Rattle.kh_term.specs.Make.{path_tree};
-ghost use Rattle.khepri.specs.Machine.{word, ok_with, node_not_found, answer_of, reply_to, after};
+ghost use Rattle.kh_read.specs.declared.form.Form.TheVariants as form;
+ghost use Rattle.khepri.specs.Machine.{word, ok_with, node_not_found, answer_of, store_full, is_logged, reply_to, after};
 
 use crate::tree::Tree;
 use kh_read::Form;
 use kh_term::{Atom, NoMemory, Path, Term, Terms, atom, int, map_of_one, path_term, tuple};
 use std::alloc::Global;
 
+/// What came of a command.
+#[derive(Drop)]
+pub struct Applied {
+    pub reply: Term,
+    /// Whether it is one that is logged.
+    pub logged: bool,
+}
+
 impl Tree {
-    /// Executes a form and gives its reply.
-    pub fn apply(&mut self, alloc: Global, form: Form) -> Result<Term, NoMemory>
-        ensures ok { IfOk result (λ reply. (reply.node ≡ reply_to form self.old) × (self.new ≡ after form self.old)) }
+    /// Executes a form.
+    pub fn apply(&mut self, alloc: Global, form: Form) -> Result<Applied, NoMemory>
+        ensures reply { IfOk result (λ applied. applied.reply.node ≡ reply_to form self.old) }
+        ensures logged { IfOk result (λ applied. applied.logged ≡ is_logged form self.old) }
+        ensures after { OnOk result (self.new ≡ after form self.old) }
         ensures err { OnErr result (self.new ≡ self.old) }
     {
         match form {
-            Form::Put(path, number) => {
-                let reply = word(alloc, "ok")?;
-                self.put(path, number)?;
-                Ok(reply)
+            Form::Put(path, number) => self.apply_put(alloc, path, number),
+            Form::Get(path) => {
+                let reply = answer(alloc, self.get(&path), &path)?;
+                Ok(Applied {
+                    reply,
+                    logged: false,
+                })
             }
-            Form::Get(path) => answer(alloc, self.get(&path), &path),
+        }
+    }
+
+    // Sets the data of a node, where there is room.
+    fn apply_put(&mut self, alloc: Global, path: Path, number: i128) -> Result<Applied, NoMemory>
+        ensures reply { IfOk result (λ applied. applied.reply.node ≡ reply_to (form.Put path number) self.old) }
+        ensures logged { IfOk result (λ applied. applied.logged ≡ is_logged (form.Put path number) self.old) }
+        ensures after { OnOk result (self.new ≡ after (form.Put path number) self.old) }
+        ensures err { OnErr result (self.new ≡ self.old) }
+    {
+        let done = word(alloc, "ok")?;
+        if self.put(path, number)? {
+            Ok(Applied {
+                reply: done,
+                logged: true,
+            })
+        } else {
+            Ok(Applied {
+                reply: store_full(alloc)?,
+                logged: false,
+            })
         }
     }
 }
 
+/// `{error,store_full}`
+pub fn store_full(alloc: Global) -> Result<Term, NoMemory>
+    ensures { IfOk result (λ term. term.node ≡ store_full) }
+{
+    let error = word(alloc, "error")?;
+    let full = word(alloc, "store_full")?;
+    Ok(pair(alloc, error, full)?)
+}
+
 // The atom of a word.
-fn word(alloc: Global, text: &str) -> Result<Term, NoMemory>
+pub(crate) fn word(alloc: Global, text: &str) -> Result<Term, NoMemory>
     requires { length text.now ≤ 255 }
     ensures { IfOk result (λ term. term.node ≡ word text.now) }
 {
@@ -48,7 +91,12 @@ fn pair(alloc: Global, first: Term, second: Term) -> Result<Term, NoMemory>
 }
 
 // A tuple of three.
-fn triple(alloc: Global, first: Term, second: Term, third: Term) -> Result<Term, NoMemory>
+pub(crate) fn triple(
+    alloc: Global,
+    first: Term,
+    second: Term,
+    third: Term,
+) -> Result<Term, NoMemory>
     ensures { IfOk result (λ term. term.node ≡ tree.Tuple (first.node ∷ second.node ∷ third.node ∷ [])) }
 {
     let mut parts = Terms::new(alloc);

@@ -1,7 +1,9 @@
 //! Replies on their way out.
 ghost use Rattle.std.specs.Prelude.{◌≡◌, ◌≤◌, List, length, take, OnOk, OnErr};
 ghost use Rattle.kh_io.specs.Told.{Kept, Told, Extends, IsFrontOf, Rose};
+ghost use Rattle.kh_io.specs.Disk.{FilesStay, LeavesOnly};
 ghost use Rattle.khepri.specs.Output.{GivesAll};
+ghost use Rattle.khepri.specs.Session.{Untouched};
 
 use kh_io::{Failed, Host};
 
@@ -12,8 +14,13 @@ pub fn give_all<H: Host>(host: &mut H, piece: &[u8]) -> Result<(), Failed>
     ensures fault { OnErr result (Rose (H.write_faults host.old) (H.write_faults host.new)) }
     ensures no_fault { OnOk result (H.write_faults host.new ≡ H.write_faults host.old) }
     ensures faults_stand { H.write_faults host.old ≤ H.write_faults host.new }
+    ensures files { FilesStay (H.seen host.old) (H.seen host.new) (H.image host.old) (H.image host.new) }
+    ensures any_moment { LeavesOnly (H.moment host.old) (H.moment host.new) (H.left_since host.old) (H.left_since host.new)
+        (Untouched (H.image host.old) (H.stamp host.old) (H.stamp host.new)) }
+    ensures stamp { H.stamp host.old ≤ H.stamp host.new }
     ensures input { Kept (H.left host.old) (H.left host.new) }
-    ensures other_faults { H.read_faults host.new ≡ H.read_faults host.old }
+    ensures read_faults { H.read_faults host.new ≡ H.read_faults host.old }
+    ensures disk_faults { H.disk_faults host.new ≡ H.disk_faults host.old }
 {
     let mut rest = piece;
     while !rest.is_empty() {

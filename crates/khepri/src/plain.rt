@@ -11,7 +11,7 @@ use kh_read::Form;
 use kh_term::NoMemory;
 use std::alloc::Global;
 
-/// The whole text that the session of a script gives, and the status that says how it ends.
+/// The whole text that a tree without a log gives for a script, and the status that says how the script ends.
 /// The script is in memory as a whole, and no longer than is read.
 pub fn plain_session(alloc: Global, script: &[u8]) -> Result<(Vec<u8>, u8), NoMemory>
     ensures { IfOk result (λ x. TextAndStatus script.now x.0.items x.1) }
@@ -37,8 +37,8 @@ fn add_reply(alloc: Global, text: &mut Vec<u8>, tree: &mut Tree, form: Form) -> 
     ensures text { OnOk result (text.new.items ≡ text.old.items ++ shown_line (reply_to form tree.old)) }
     ensures tree { OnOk result (tree.new ≡ after form tree.old) }
 {
-    let reply = tree.apply(alloc, form)?;
-    let line = print_line(alloc, &reply)?;
+    let applied = tree.apply(alloc, form)?;
+    let line = print_line(alloc, &applied.reply)?;
     text.extend_from_slice(&line)?;
     Ok(())
 }

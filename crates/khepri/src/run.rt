@@ -1,12 +1,15 @@
-//! A whole run: pieces of the input come, and their lines are answered.
+//! A whole run: the store is opened, pieces of the input come, and their lines are answered.
 ghost use Rattle.std.specs.Prelude.{◌≡◌, ◌<◌, Err, length};
 ghost use Rattle.kh_io.specs.Told.{Rose};
-ghost use Rattle.khepri.specs.Tree.{root};
-ghost use Rattle.khepri.specs.Run.{stop_status, run_status, Ends};
+ghost use Rattle.kh_io.specs.Disk.{TellsFiles};
+ghost use Rattle.khepri.specs.Recovery.{Recovery, Recovers};
+ghost use Rattle.khepri.specs.Store.{FilesTold, state_of, Stands};
+ghost use Rattle.khepri.specs.Run.{stop_status, run_status, Ends, Runs, FindsDamage, Never};
 
+use crate::damage::report;
 use crate::input::{Piece, take_more};
 use crate::session::{Stop, serve};
-use crate::tree::Tree;
+use crate::store::{OpenError, Store};
 use kh_io::Host;
 use std::alloc::Global;
 
@@ -19,43 +22,59 @@ impl Stop {
         ensures { result ≡ stop_status self }
     {
         match self {
+            Stop::Damaged => 1,
             Stop::Syntax => 2,
             Stop::ReadFault => 3,
             Stop::WriteFault => 4,
+            Stop::DiskFault => 5,
             Stop::NoMemory => 6,
             Stop::TooLong => 9,
         }
     }
 }
 
-/// Answers the script that the host gives.
+/// Opens the store in the files of the host, and answers the script that it gives.
 pub fn run<H: Host>(alloc: Global, host: &mut H) -> Result<(), Stop>
-    ensures ran { Ends (run_status result) (H.left host.old) (H.left host.new) (H.given host.old) (H.given host.new) }
+    ensures ran { FilesTold (H.seen host.old) (H.seen host.new) (λ files. (found : Recovery) → Recovers files found → Runs found (run_status result)
+        (record { stamp = H.stamp host.old; from = H.moment host.old; to = H.moment host.new; past = H.left_since host.old; since = H.left_since host.new })
+        (H.image host.old) (H.image host.new) (H.seen host.old) (H.seen host.new) (H.left host.old) (H.left host.new) (H.given host.old) (H.given host.new)) }
+    ensures damage { result ≡ Err Stop.Damaged → FilesTold (H.seen host.old) (H.seen host.new) FindsDamage }
     ensures reads { result ≡ Err Stop.ReadFault → Rose (H.read_faults host.old) (H.read_faults host.new) }
     ensures writes { result ≡ Err Stop.WriteFault → Rose (H.write_faults host.old) (H.write_faults host.new) }
+    ensures disk { result ≡ Err Stop.DiskFault → Rose (H.disk_faults host.old) (H.disk_faults host.new) }
+    ensures no_read_fault { result ≡ Err Stop.Damaged → H.read_faults host.new ≡ H.read_faults host.old }
+    ensures no_write_fault { result ≡ Err Stop.Damaged → H.write_faults host.new ≡ H.write_faults host.old }
+    ensures no_disk_fault { result ≡ Err Stop.Damaged → H.disk_faults host.new ≡ H.disk_faults host.old }
 {
-    let Ok(mut tree) = Tree::new(alloc) else {
-        return Err(Stop::NoMemory);
-    };
     let Ok(mut buffer) = vec![in alloc; 0u8; PIECE] else {
         return Err(Stop::NoMemory);
     };
-    answer_script(alloc, host, &mut tree, buffer.as_mut_slice())
+    match Store::open(alloc, host) {
+        Ok(mut store) => answer_script(alloc, host, &mut store, buffer.as_mut_slice()),
+        Err(OpenError::Damaged(file, offset)) => Err(report(alloc, host, file, offset)),
+        Err(OpenError::DiskFault) => Err(Stop::DiskFault),
+        Err(OpenError::NoMemory) => Err(Stop::NoMemory),
+    }
 }
 
-// Answers a script from the root alone on. Its pieces come through the buffer.
+// Answers a script over a store that is open. Its pieces come through the buffer.
 #[tactic(none)]
 fn answer_script<H: Host>(
     alloc: Global,
     host: &mut H,
-    tree: &mut Tree,
+    store: &mut Store,
     buffer: &mut [u8],
 ) -> Result<(), Stop>
-    requires empty { tree.old ≡ root }
+    requires stands { Stands store.old (H.seen host.old 1) (H.image host.old 1) }
     requires room { 0 < length buffer.old }
-    ensures ran { Ends (run_status result) (H.left host.old) (H.left host.new) (H.given host.old) (H.given host.new) }
+    ensures ran { Ends (state_of store.old) (run_status result) Never
+        (record { stamp = H.stamp host.old; from = H.moment host.old; to = H.moment host.new; past = H.left_since host.old; since = H.left_since host.new })
+        (H.image host.new) (H.left host.old) (H.left host.new) (H.given host.old) (H.given host.new) }
+    ensures told { TellsFiles (H.seen host.new) → TellsFiles (H.seen host.old) }
+    ensures damage { result ≡ Err Stop.Damaged → ⊥ }
     ensures reads { result ≡ Err Stop.ReadFault → Rose (H.read_faults host.old) (H.read_faults host.new) }
     ensures writes { result ≡ Err Stop.WriteFault → Rose (H.write_faults host.old) (H.write_faults host.new) }
+    ensures disk { result ≡ Err Stop.DiskFault → Rose (H.disk_faults host.old) (H.disk_faults host.new) }
 {
     let mut input = Vec::new(alloc);
     let mut at = 0;
@@ -65,12 +84,12 @@ fn answer_script<H: Host>(
             Ok(Piece::None) => break,
             Err(stop) => return Err(stop),
         }
-        match serve(alloc, host, tree, input.as_slice(), at, false) {
+        match serve(alloc, host, store, input.as_slice(), at, false) {
             Ok(next) => at = next,
             Err(stop) => return Err(stop),
         }
     }
-    match serve(alloc, host, tree, input.as_slice(), at, true) {
+    match serve(alloc, host, store, input.as_slice(), at, true) {
         Ok(_) => Ok(()),
         Err(stop) => Err(stop),
     }

@@ -1,14 +1,18 @@
 //! The forms of a script are read and answered, one after another.
-ghost use Rattle.std.specs.Prelude.{◌≡◌, ◌≤◌, length, drop, OnOk, OnErr, IfOk, IfErr};
-ghost use Rattle.kh_io.specs.Told.{Kept, Extends, IsFrontOf};
+ghost use Rattle.std.specs.Prelude.{◌≡◌, ◌≤◌, IsTrue, length, drop, OnOk, OnErr, IfOk, IfErr};
+ghost use Rattle.kh_io.specs.Told.{Kept, Extends, IsFrontOf, Rose};
+ghost use Rattle.kh_io.specs.Disk.{TellsFiles, LeavesOnly};
 ghost use Rattle.kh_text_defs.specs.Shown.{shown_line};
+ghost use Rattle.khepri.specs.Command.{is_command};
 ghost use Rattle.khepri.specs.Output.{GivesAll};
-ghost use Rattle.khepri.specs.Machine.{reply_to, after};
+ghost use Rattle.khepri.specs.State.{store_reply, store_after};
+ghost use Rattle.khepri.specs.Store.{state_of, Stands};
+ghost use Rattle.khepri.specs.Session.{Answering};
 ghost use Rattle.khepri.specs.Serving.{AnswerStops, ServesTo, ServeStops};
 
 use crate::line::{Line, read_line};
 use crate::output::give_all;
-use crate::tree::Tree;
+use crate::store::{Store, StoreError};
 use kh_io::Host;
 use kh_print::print_line;
 use kh_read::Form;
@@ -19,25 +23,42 @@ use std::alloc::Global;
 pub enum Stop {
     /// No form stands at some place.
     Syntax,
+    /// The files are damaged.
+    Damaged,
     ReadFault,
     WriteFault,
+    DiskFault,
     /// The script is longer than is read.
     TooLong,
     NoMemory,
 }
 
 /// Executes a form, and gives its reply.
-pub fn answer<H: Host>(alloc: Global, host: &mut H, tree: &mut Tree, form: Form) -> Result<(), Stop>
-    ensures given { OnOk result (GivesAll (H.given host.old) (H.given host.new) (shown_line (reply_to form tree.old))) }
-    ensures tree { OnOk result (tree.new ≡ after form tree.old) }
-    ensures front { OnErr result (Extends (H.given host.old) (H.given host.new) (λ more. IsFrontOf more (shown_line (reply_to form tree.old)))) }
-    ensures stops { IfErr result (λ stop. AnswerStops stop (H.write_faults host.old) (H.write_faults host.new)) }
+pub fn answer<H: Host>(
+    alloc: Global,
+    host: &mut H,
+    store: &mut Store,
+    form: Form,
+) -> Result<(), Stop>
+    requires stands { Stands store.old (H.seen host.old 1) (H.image host.old 1) }
+    requires command { IsTrue (is_command form) }
+    ensures given { OnOk result (GivesAll (H.given host.old) (H.given host.new) (shown_line (store_reply form (state_of store.old)))) }
+    ensures after { OnOk result (state_of store.new ≡ store_after form (state_of store.old)) }
+    ensures stands { OnOk result (Stands store.new (H.seen host.new 1) (H.image host.new 1)) }
+    ensures front { OnErr result (Extends (H.given host.old) (H.given host.new) (λ more. IsFrontOf more (shown_line (store_reply form (state_of store.old))))) }
+    ensures any_moment { LeavesOnly (H.moment host.old) (H.moment host.new) (H.left_since host.old) (H.left_since host.new)
+        (Answering form (state_of store.old) (H.stamp host.old) (H.stamp host.new)) }
+    ensures stops { IfErr result (λ stop. AnswerStops stop (Rose (H.write_faults host.old) (H.write_faults host.new)) (Rose (H.disk_faults host.old) (H.disk_faults host.new))) }
+    ensures told { TellsFiles (H.seen host.new) → TellsFiles (H.seen host.old) }
     ensures no_fault { OnOk result (H.write_faults host.new ≡ H.write_faults host.old) }
+    ensures no_disk_fault { OnOk result (H.disk_faults host.new ≡ H.disk_faults host.old) }
     ensures input { Kept (H.left host.old) (H.left host.new) }
-    ensures other_faults { H.read_faults host.new ≡ H.read_faults host.old }
+    ensures read_faults { H.read_faults host.new ≡ H.read_faults host.old }
 {
-    let Ok(reply) = tree.apply(alloc, form) else {
-        return Err(Stop::NoMemory);
+    let reply = match store.execute(host, form) {
+        Ok(reply) => reply,
+        Err(StoreError::DiskFault) => return Err(Stop::DiskFault),
+        Err(StoreError::NoMemory) => return Err(Stop::NoMemory),
     };
     let Ok(line) = print_line(alloc, &reply) else {
         return Err(Stop::NoMemory);
@@ -53,24 +74,31 @@ pub fn answer<H: Host>(alloc: Global, host: &mut H, tree: &mut Tree, form: Form)
 pub fn serve<H: Host>(
     alloc: Global,
     host: &mut H,
-    tree: &mut Tree,
+    store: &mut Store,
     input: &[u8],
     at: usize,
     is_end: bool,
 ) -> Result<usize, Stop>
-    requires { at ≤ length input.now }
-    ensures served { IfOk result (λ next. ServesTo is_end input.now at next tree.old tree.new (H.given host.old) (H.given host.new)) }
-    ensures stops { IfErr result (λ stop. ServeStops stop is_end (drop at input.now) tree.old
-        (H.given host.old) (H.given host.new) (H.write_faults host.old) (H.write_faults host.new)) }
+    requires within { at ≤ length input.now }
+    requires stands { Stands store.old (H.seen host.old 1) (H.image host.old 1) }
+    ensures served { IfOk result (λ next. ServesTo is_end input.now at next (state_of store.old) (state_of store.new)
+        (record { stamp = H.stamp host.old; from = H.moment host.old; to = H.moment host.new; past = H.left_since host.old; since = H.left_since host.new })
+        (H.given host.old) (H.given host.new)) }
+    ensures stands { OnOk result (Stands store.new (H.seen host.new 1) (H.image host.new 1)) }
+    ensures stops { IfErr result (λ stop. ServeStops stop is_end (drop at input.now) (state_of store.old)
+        (record { stamp = H.stamp host.old; from = H.moment host.old; to = H.moment host.new; past = H.left_since host.old; since = H.left_since host.new })
+        (H.given host.old) (H.given host.new) (Rose (H.write_faults host.old) (H.write_faults host.new)) (Rose (H.disk_faults host.old) (H.disk_faults host.new))) }
+    ensures told { TellsFiles (H.seen host.new) → TellsFiles (H.seen host.old) }
     ensures no_fault { OnOk result (H.write_faults host.new ≡ H.write_faults host.old) }
+    ensures no_disk_fault { OnOk result (H.disk_faults host.new ≡ H.disk_faults host.old) }
     ensures input { Kept (H.left host.old) (H.left host.new) }
-    ensures other_faults { H.read_faults host.new ≡ H.read_faults host.old }
+    ensures read_faults { H.read_faults host.new ≡ H.read_faults host.old }
 {
     let mut place = at;
     'lines: loop {
         match read_line(alloc, input, place, is_end) {
             Ok(Line::Form(form, next)) => {
-                if let Err(stop) = answer(alloc, host, tree, form) {
+                if let Err(stop) = answer(alloc, host, store, form) {
                     return Err(stop);
                 }
                 place = next;

@@ -1,6 +1,8 @@
 //! The top call over a host that never fails.
 ghost use Rattle.std.specs.Prelude.{◌≡◌, ◌≢◌, ◌↔◌, false, IsTrue};
 ghost use Rattle.khepri.specs.Words.{are_right};
+ghost use Rattle.khepri.specs.Recovery.{Recovery, Recovers};
+ghost use Rattle.khepri.specs.Store.{FilesTold};
 ghost use Rattle.khepri.specs.Run.{TellsEnding};
 ghost use Rattle.khepri.specs.Sound.{IsZero};
 
@@ -8,13 +10,16 @@ use crate::top::khepri;
 use kh_io::Host;
 use std::alloc::Global;
 
-/// The status of a script over a host whose counts of faults are always 0.
+/// The status of a run over a host whose counts of faults are always 0.
 pub fn answer_soundly<H: Host>(alloc: Global, words: &[String], host: &mut H) -> u8
     requires reads { IsZero H.read_faults }
     requires writes { IsZero H.write_faults }
+    requires disk { IsZero H.disk_faults }
     ensures no_read_fault { result ≢ 3 }
     ensures no_write_fault { result ≢ 4 }
-    ensures status { IsTrue (are_right words.now) → TellsEnding result (H.left host.old) (H.left host.new) (H.given host.old) (H.given host.new) }
+    ensures no_disk_fault { result ≢ 5 }
+    ensures status { IsTrue (are_right words.now) → FilesTold (H.seen host.old) (H.seen host.new) (λ files. (found : Recovery) → Recovers files found
+        → TellsEnding result found (H.left host.old) (H.left host.new) (H.given host.old) (H.given host.new)) }
     ensures words { (result ≡ 7) ↔ (are_right words.now ≡ false) }
 {
     khepri(alloc, words, host)

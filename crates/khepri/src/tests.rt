@@ -1,4 +1,5 @@
 //! The top call over hosts in memory. What is expected was worked out by hand.
+mod reopening;
 mod slow_host;
 
 use crate::plain::plain_session;
@@ -88,13 +89,14 @@ const ROWS: [(&[u8], &[u8], u8); 24] = [
     (b"{", b"", 2),
 ];
 
-fn no_files(alloc: Global) -> Files {
-    Files {
+// Files of which file 1 has these bytes, and the others none.
+fn files_of(alloc: Global, log: &[u8]) -> Result<Files, Fail> {
+    Ok(Files {
         s0: FileBytes::new(Vec::new(alloc)),
-        l0: FileBytes::new(Vec::new(alloc)),
+        l0: FileBytes::new(log.to_vec(alloc)?),
         s1: FileBytes::new(Vec::new(alloc)),
         l1: FileBytes::new(Vec::new(alloc)),
-    }
+    })
 }
 
 fn words(alloc: Global, texts: &[&str]) -> Result<Vec<String>, Fail> {
@@ -116,7 +118,8 @@ fn answers(
 ) -> Result<(), Fail> {
     let run = words(alloc, &["run"])?;
     let (script, failing) = (script.to_vec(alloc)?, failing.to_vec(alloc)?);
-    let mut host = MemoryHost::new(alloc, script, no_files(alloc), failing, ROOM)?;
+    let files = files_of(alloc, b"")?;
+    let mut host = MemoryHost::new(alloc, script, files, failing, ROOM)?;
     assert_eq!(rt; khepri(alloc, run.as_slice(), &mut host), status);
     assert_eq!(rt; host.output(), output);
     Ok(())
@@ -185,35 +188,43 @@ fn a_name_has_at_most_255_bytes(rt: HostRuntime) -> Result<(), Fail> {
 #[test]
 fn a_failed_call_ends_the_run(rt: HostRuntime) -> Result<(), Fail> {
     let alloc = rt.alloc();
-    // The first call takes the script, and the last one finds no more of it. Each call between them gives a reply.
-    let commands: [(&[u8], u64, &[u8]); 10] = [
-        (b"{put,[a],1}.\n", 1, b"ok.\n"),
-        (b"{get,[a]}.\n", 2, b"{ok,1}.\n"),
-        (b"{put,[b,c],2}.\n", 3, b"ok.\n"),
-        (b"{get,[b]}.\n", 4, b"{ok,undefined}.\n"),
-        (b"{get,[b,c]}.\n", 5, b"{ok,2}.\n"),
+    // The store is opened in 9 calls, call 9 takes the script, and the last one finds no more of it. Between them each
+    // command has its calls, the last of which gives its reply; those before it append a put to the log.
+    let commands: [(&[u8], u64, u64, &[u8]); 10] = [
+        (b"{put,[a],1}.\n", 10, 14, b"ok.\n"),
+        (b"{get,[a]}.\n", 15, 15, b"{ok,1}.\n"),
+        (b"{put,[b,c],2}.\n", 16, 20, b"ok.\n"),
+        (b"{get,[b]}.\n", 21, 21, b"{ok,undefined}.\n"),
+        (b"{get,[b,c]}.\n", 22, 22, b"{ok,2}.\n"),
         (
             b"{get,[d]}.\n",
-            6,
+            23,
+            23,
             b"{error,{khepri,node_not_found,#{node_path => [d]}}}.\n",
         ),
-        (b"{put,[b],-3}.\n", 7, b"ok.\n"),
-        (b"{get,[b]}.\n", 8, b"{ok,-3}.\n"),
-        (b"{put,[a],4}.\n", 9, b"ok.\n"),
-        (b"{get,[a]}.\n", 10, b"{ok,4}.\n"),
+        (b"{put,[b],-3}.\n", 24, 28, b"ok.\n"),
+        (b"{get,[b]}.\n", 29, 29, b"{ok,-3}.\n"),
+        (b"{put,[a],4}.\n", 30, 34, b"ok.\n"),
+        (b"{get,[a]}.\n", 35, 35, b"{ok,4}.\n"),
     ];
     let mut script = Vec::new(alloc);
-    for (form, _, _) in commands {
+    for (form, _, _, _) in commands {
         script.extend_from_slice(form)?;
     }
-    answers(&rt, alloc, &script, &[0], b"", 3)?;
+    for call in 0..9 {
+        answers(&rt, alloc, &script, &[call], b"", 5)?;
+    }
+    answers(&rt, alloc, &script, &[9], b"", 3)?;
     let mut output = Vec::new(alloc);
-    for (_, call, reply) in commands {
-        answers(&rt, alloc, &script, &[call], &output, 4)?;
+    for (_, first, last, reply) in commands {
+        for call in first..last {
+            answers(&rt, alloc, &script, &[call], &output, 5)?;
+        }
+        answers(&rt, alloc, &script, &[last], &output, 4)?;
         output.extend_from_slice(reply)?;
     }
-    answers(&rt, alloc, &script, &[11], &output, 3)?;
-    answers(&rt, alloc, &script, &[12], &output, 0)
+    answers(&rt, alloc, &script, &[36], &output, 3)?;
+    answers(&rt, alloc, &script, &[37], &output, 0)
 }
 
 #[test]

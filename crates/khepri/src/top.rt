@@ -2,25 +2,38 @@
 ghost use Rattle.std.specs.Prelude.{◌≡◌, ◌↔◌, false, IsTrue};
 ghost use Rattle.kh_io.specs.Told.{Rose};
 ghost use Rattle.khepri.specs.Words.{are_right};
-ghost use Rattle.khepri.specs.Run.{Ends, NoFaults, OneSession, TellsEnding};
+ghost use Rattle.khepri.specs.Recovery.{Recovery, Recovers};
+ghost use Rattle.khepri.specs.Store.{FilesTold};
+ghost use Rattle.khepri.specs.Run.{Runs, FindsDamage, Stood, OneScript, TellsEnding};
 
 use crate::run::run;
 use kh_io::Host;
 use std::alloc::Global;
 
-/// Answers the script that the host gives, where the words are the one word `run`, and returns the status:
-/// 0 the whole script was answered; 2 bytes that are no form; 3 a read failed; 4 a write failed; 6 memory ran out;
-/// 7 other words; 9 a script of more than 67,108,864 bytes.
+/// Opens the store in the files of the host and answers the script that it gives, where the words are the one word `run`.
+/// Returns the status:
+/// 0 the whole script was answered; 1 the files are damaged; 2 bytes that are no form; 3 a read failed; 4 a write failed;
+/// 5 the disk failed; 6 memory ran out; 7 other words; 9 a script of more than 67,108,864 bytes.
 pub fn khepri<H: Host>(alloc: Global, words: &[String], host: &mut H) -> u8
-    // What was given is a front of the session's text, and at 0, 2 and 9 the whole text.
-    ensures session { IsTrue (are_right words.now) → Ends result (H.left host.old) (H.left host.new) (H.given host.old) (H.given host.new) }
+    // Where the files at entry recover to a state: what was given is a front of the replies to the commands, executed from that state
+    // on, at 0, 2 and 9 all of them; and a crash at any moment since entry leaves what a crash at entry might have left, or the state
+    // after the first k commands, among which is each whose reply has begun; after 0 it leaves the state after all.
+    // Where they are damaged: the line that says so is given, and reads and crashes give what they gave.
+    ensures session { IsTrue (are_right words.now) → FilesTold (H.seen host.old) (H.seen host.new) (λ files. (found : Recovery) → Recovers files found → Runs found result
+        (record { stamp = H.stamp host.old; from = H.moment host.old; to = H.moment host.new; past = H.left_since host.old; since = H.left_since host.new })
+        (H.image host.old) (H.image host.new) (H.seen host.old) (H.seen host.new) (H.left host.old) (H.left host.new) (H.given host.old) (H.given host.new)) }
 
-    // Where no call of the host fails, the status says how the session ends.
-    ensures status { IsTrue (are_right words.now) →
-        NoFaults (H.read_faults host.old) (H.read_faults host.new) (H.write_faults host.old) (H.write_faults host.new) →
-        TellsEnding result (H.left host.old) (H.left host.new) (H.given host.old) (H.given host.new) }
+    // Where no call of the host fails, the status says how the run ends.
+    ensures status { IsTrue (are_right words.now) → Stood (H.read_faults host.old) (H.read_faults host.new) → Stood (H.write_faults host.old) (H.write_faults host.new)
+        → Stood (H.disk_faults host.old) (H.disk_faults host.new) → FilesTold (H.seen host.old) (H.seen host.new) (λ files. (found : Recovery) → Recovers files found
+        → TellsEnding result found (H.left host.old) (H.left host.new) (H.given host.old) (H.given host.new)) }
+    ensures damage { result ≡ 1 → FilesTold (H.seen host.old) (H.seen host.new) FindsDamage }
+    ensures no_read_fault { result ≡ 1 → H.read_faults host.new ≡ H.read_faults host.old }
+    ensures no_write_fault { result ≡ 1 → H.write_faults host.new ≡ H.write_faults host.old }
+    ensures no_disk_fault { result ≡ 1 → H.disk_faults host.new ≡ H.disk_faults host.old }
     ensures reads { result ≡ 3 → Rose (H.read_faults host.old) (H.read_faults host.new) }
     ensures writes { result ≡ 4 → Rose (H.write_faults host.old) (H.write_faults host.new) }
+    ensures disk { result ≡ 5 → Rose (H.disk_faults host.old) (H.disk_faults host.new) }
 
     // Other words are seen before the host is touched.
     ensures words { (result ≡ 7) ↔ (are_right words.now ≡ false) }
@@ -45,7 +58,7 @@ fn are_right(words: &[String]) -> bool
     }
 }
 
-/// Each script has exactly one session.
-pub fn one_session()
-    ensures { OneSession }
+/// Each script has exactly one list of commands and one ending.
+pub fn one_script()
+    ensures { OneScript }
 {}

@@ -1,13 +1,14 @@
 //! The tree of nodes.
-ghost use Rattle.std.specs.Prelude.{◌≡◌, List, Option, Some, IfOk, OnOk, OnErr, is_none};
-ghost use Rattle.std.specs.BTreeMap.{insert_entry};
-ghost use Rattle.kh_term.specs.Name.{path_cmp};
-ghost use Rattle.khepri.specs.Tree.{Node, root, node_at, parents_of, with_node, with_nodes, put};
+ghost use Rattle.std.specs.Prelude.{◌≡◌, [], List, Option, IfOk, OnOk, OnErr, is_none, if◌then◌else◌};
+ghost use Rattle.khepri.specs.Tree.{Node, root, node_at, parents_of, with_node, with_data, put, fits, has_room};
 
 use kh_term::{NoMemory, Path};
 use std::alloc::Global;
 use std::collections::BTreeMap;
 use std::marker::Model;
+
+/// How many nodes a tree may have, without the root.
+const NODE_LIMIT: usize = 200_000;
 
 /// The nodes, each with an integer as its data or with none. The root is always there, and so is each parent of a node.
 #[derive(Drop)]
@@ -47,8 +48,10 @@ impl Tree {
     }
 
     /// Sets the data of the node at a path. The nodes above it that aren't there are made, without data.
-    pub fn put(&mut self, path: Path, number: i128) -> Result<(), NoMemory>
-        ensures ok { OnOk result (self.new ≡ put self.old path number) }
+    /// Answers whether there was room for them; where there wasn't, nothing is changed.
+    pub fn put(&mut self, path: Path, number: i128) -> Result<bool, NoMemory>
+        ensures room { IfOk result (λ done. done ≡ has_room self.old path number) }
+        ensures done { IfOk result (λ done. self.new ≡ (if done then put self.old path number else self.old)) }
         ensures err { OnErr result (self.new ≡ self.old) }
     {
         let parents = parents_of(self.alloc, &path)?;
@@ -98,6 +101,21 @@ fn take_back(nodes: &mut Nodes, path: &Path, made: bool)
     }
 }
 
+// Sets the data of a node, where there is room for it.
+#[tactic(auto, using(crate::proofs::Room::nodes_with_one_set))]
+fn put_at(nodes: &mut Nodes, path: Path, number: i128) -> Result<bool, NoMemory>
+    ensures room { IfOk result (λ done. done ≡ fits (with_data nodes.old.entries [] path number)) }
+    ensures done { IfOk result (λ done. nodes.new.entries ≡ (if done then with_data nodes.old.entries [] path number else nodes.old.entries)) }
+    ensures err { OnErr result (nodes.new.entries ≡ nodes.old.entries) }
+{
+    let added = if nodes.contains_key(&path) { 0 } else { 1 };
+    if nodes.len() + added > NODE_LIMIT + 1 {
+        return Ok(false);
+    }
+    nodes.insert(path, Some(number))?;
+    Ok(true)
+}
+
 // Sets the data of a node and makes those of the nodes above it that aren't there.
 fn put_below(
     alloc: Global,
@@ -105,19 +123,17 @@ fn put_below(
     parents: &[Path],
     path: Path,
     number: i128,
-) -> Result<(), NoMemory>
-    ensures ok { OnOk result (nodes.new.entries ≡ insert_entry path_cmp (with_nodes nodes.old.entries parents.now) path (Some number)) }
+) -> Result<bool, NoMemory>
+    ensures room { IfOk result (λ done. done ≡ fits (with_data nodes.old.entries parents.now path number)) }
+    ensures done { IfOk result (λ done. nodes.new.entries ≡ (if done then with_data nodes.old.entries parents.now path number else nodes.old.entries)) }
     ensures err { OnErr result (nodes.new.entries ≡ nodes.old.entries) }
 {
     match parents {
-        [] => {
-            nodes.insert(path, Some(number))?;
-            Ok(())
-        }
+        [] => put_at(nodes, path, number),
         [parent, others @ ..] => {
             let made = make_node(alloc, nodes, parent)?;
             let done = put_below(alloc, nodes, others, path, number);
-            if done.is_err() {
+            if !matches!(done, Ok(true)) {
                 take_back(nodes, parent, made);
             }
             done

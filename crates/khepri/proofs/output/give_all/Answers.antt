@@ -1,5 +1,7 @@
-use Rattle.std.proofs.Common.{◌∙◌}
-use Rattle.khepri.proofs.Giving.{giving_goes_on, kept_then}
+use Rattle.std.proofs.Common.{◌∙◌, arith}
+use Rattle.kh_io.proofs.Telling.{kept_both}
+use Rattle.kh_log.proofs.Walk.{stays_both}
+use Rattle.khepri.proofs.Giving.{giving_goes_on, untouched_goes_on}
 use Rattle.khepri.proofs.output.give_all.Goals as goal
 
 pub loop-rest-preserved : goal.loop-rest-preserved
@@ -11,6 +13,10 @@ loop-rest-preserved g c =
       giving = rw c.split_at.ensures.back (giving_goes_on (host.given c.args.host.now) (host.given c.loop-rest.host) (host.given c.give.new.self)
           c.args.piece.now c.loop-rest.rest.now c.in_ok-taken.taken before.giving call.added);
       no_fault = call.no_fault ∙ before.no_fault;
-      input = kept_then (host.left c.args.host.now) (host.left c.loop-rest.host) (host.left c.give.new.self) before.input call.input;
-      other_faults = call.read_faults ∙ before.other_faults;
+      files = λ file lt. stays_both (before.files file lt) (call.files file lt);
+      time = untouched_goes_on (λ file lt. stays_both (before.files file lt) (call.files file lt)) before.stamp call.stamp before.time call.time;
+      stamp = omega (arith, before.stamp, call.stamp);
+      input = kept_both (host.left c.args.host.now) (host.left c.loop-rest.host) (host.left c.give.new.self) before.input call.input;
+      read_faults = call.read_faults ∙ before.read_faults;
+      disk_faults = call.disk_faults ∙ before.disk_faults;
     }

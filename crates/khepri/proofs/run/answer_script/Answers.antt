@@ -1,8 +1,11 @@
-use Rattle.std.proofs.Common.{◌≡◌, false, true, ◌∙◌, drop, refl, Ok, Err, arith}
+use Rattle.std.proofs.Common.{◌≡◌, ◌⊎◌, false, true, ◌∙◌, drop, refl, Ok, Err, inl, inr, arith}
 use Rattle.std.specs.Prelude.{Result}
+use Rattle.kh_io.specs.Told.{Rose}
 use Rattle.khepri.specs.declared.session.Stop.{Stop}
 use Rattle.khepri.specs.declared.session.Stop.TheVariants as stop
-use Rattle.khepri.proofs.Running.{starts, took_piece, took_shorter, served_on, served_stops, take_stops, ended, finished, finish_stops, take_reads, take_writes, serve_reads, serve_writes, so_far_kept}
+use Rattle.khepri.specs.Store.{state_of}
+use Rattle.khepri.proofs.Stands.{stands_recovers, stands_stay, tells_stay}
+use Rattle.khepri.proofs.Running.{View, view_of, starts, took_piece, took_shorter, served_on, served_stops, take_stops, all_came, finished, finish_stops, take_rose, take_reason, serve_rose}
 use Rattle.khepri.proofs.run.answer_script.Goals as goal
 
 abbrev ended_by : Stop → Result (Unit {0}) Stop
@@ -17,10 +20,16 @@ not_ended s e = cc
 pub pieces-init : goal.pieces-init
 pieces-init g c =
     let host = g.H.Disk in
+    let view = view_of host.left host.given host.stamp host.moment host.left_since g.met.H.Disk.stamp_counts in
     record {
-      run = rw (c.new-input.ensures.items, c.requires.empty) (starts (host.left c.args.host.now) (host.given c.args.host.now));
+      run = rw c.new-input.ensures.items (starts (view c.args.host.now) (state_of c.args.store.now) (λ files s left.
+          let now = g.met.H.Disk.only_now c.args.host.now files s left in
+          (stands_recovers c.args.store.now (host.seen c.args.host.now) (host.image c.args.host.now) c.requires.stands files now.0, now.1)));
+      stands = c.requires.stands;
+      told = λ tells. tells;
       reads = refl;
       writes = refl;
+      disk = refl;
     }
 
 pub take_more-requires-clause-some : goal.take_more-requires-clause-some
@@ -32,30 +41,57 @@ take_more-requires-clause-short g c = c.pieces.invariant.run.short
 pub returns-in-Err-clause-ran : goal.returns-in-Err-clause-ran
 returns-in-Err-clause-ran g c =
     let host = g.H.Disk in
-    take_stops (host.left c.args.host.now) (host.left c.pieces.host) (host.left c.take_more.new.host)
-    (host.given c.args.host.now) (host.given c.pieces.host) (host.given c.take_more.new.host)
-    c.pieces.input.items c.pieces.at c.pieces.tree c.in-Err.stop (host.read_faults c.pieces.host) (host.read_faults c.take_more.new.host)
-    c.pieces.invariant.run c.in-Err.ensures.stops c.in-Err.ensures.sink
+    let view = view_of host.left host.given host.stamp host.moment host.left_since g.met.H.Disk.stamp_counts in
+    let call = c.in-Err.ensures in
+    take_stops (view c.args.host.now) (view c.pieces.host) (view c.take_more.new.host) c.pieces.input.items c.pieces.at
+    (state_of c.args.store.now) (state_of c.pieces.store) (host.image c.pieces.host) _ c.in-Err.stop _ c.pieces.invariant.run call.stops call.sink call.stamp
+    (stands_recovers c.pieces.store (host.seen c.pieces.host) (host.image c.pieces.host) c.pieces.invariant.stands) call.any_moment
+
+pub returns-in-Err-clause-told : goal.returns-in-Err-clause-told
+returns-in-Err-clause-told g c tells = c.pieces.invariant.told (tells_stay c.in-Err.ensures.files tells)
+
+-- a piece is taken: the reasons why none comes
+no_other : (s : Stop) → (s ≡ stop.ReadFault) ⊎ ((s ≡ stop.TooLong) ⊎ (s ≡ stop.NoMemory)) → (s ≡ stop.Damaged) ⊎ ((s ≡ stop.WriteFault) ⊎ (s ≡ stop.DiskFault)) → ⊥
+no_other s (inl e) (inl f) = cc
+no_other s (inl e) (inr (inl f)) = cc
+no_other s (inl e) (inr (inr f)) = cc
+no_other s (inr (inl e)) (inl f) = cc
+no_other s (inr (inl e)) (inr (inl f)) = cc
+no_other s (inr (inl e)) (inr (inr f)) = cc
+no_other s (inr (inr e)) (inl f) = cc
+no_other s (inr (inr e)) (inr (inl f)) = cc
+no_other s (inr (inr e)) (inr (inr f)) = cc
+
+pub returns-in-Err-clause-damage : goal.returns-in-Err-clause-damage
+returns-in-Err-clause-damage g c e =
+    let host = g.H.Disk in
+    no_other c.in-Err.stop (take_reason c.in-Err.stop (host.left c.pieces.host) (host.left c.take_more.new.host) c.pieces.input.items _ c.in-Err.ensures.stops)
+    (inl (same_stop c.in-Err.stop stop.Damaged e))
 
 pub returns-in-Err-clause-reads : goal.returns-in-Err-clause-reads
 returns-in-Err-clause-reads g c e =
     let host = g.H.Disk in
-    take_reads c.in-Err.stop (host.left c.pieces.host) (host.left c.take_more.new.host) c.pieces.input.items (host.read_faults c.args.host.now)
-    (host.read_faults c.pieces.host) (host.read_faults c.take_more.new.host) c.in-Err.ensures.stops c.pieces.invariant.reads (same_stop c.in-Err.stop stop.ReadFault e)
+    take_rose c.in-Err.stop (host.left c.pieces.host) (host.left c.take_more.new.host) c.pieces.input.items _
+    (Rose (host.read_faults c.args.host.now) (host.read_faults c.take_more.new.host)) c.in-Err.ensures.stops
+    (λ rose. rw (← c.pieces.invariant.reads) rose) (same_stop c.in-Err.stop stop.ReadFault e)
 
 pub returns-in-Err-clause-writes : goal.returns-in-Err-clause-writes
 returns-in-Err-clause-writes g c e =
     let host = g.H.Disk in
-    absurd (take_writes c.in-Err.stop (host.left c.pieces.host) (host.left c.take_more.new.host) c.pieces.input.items
-    (host.read_faults c.pieces.host) (host.read_faults c.take_more.new.host) c.in-Err.ensures.stops (same_stop c.in-Err.stop stop.WriteFault e))
+    absurd (no_other c.in-Err.stop (take_reason c.in-Err.stop (host.left c.pieces.host) (host.left c.take_more.new.host) c.pieces.input.items _ c.in-Err.ensures.stops)
+    (inr (inl (same_stop c.in-Err.stop stop.WriteFault e))))
 
-pub serve-requires : goal.serve-requires
-serve-requires g c =
+pub returns-in-Err-clause-disk : goal.returns-in-Err-clause-disk
+returns-in-Err-clause-disk g c e =
     let host = g.H.Disk in
-    let more = took_piece (host.left c.args.host.now) (host.left c.pieces.host) (host.left c.take_more.new.host)
-    (host.given c.args.host.now) (host.given c.pieces.host) (host.given c.take_more.new.host) c.pieces.input.items c.take_more.new.input.items
-    c.pieces.at c.pieces.tree c.pieces.invariant.run (rw c.in-Ok-Some.field-0-is at c.in-Ok-Some.ensures.taken) c.in-Ok-Some.ensures.sink in
-    rw c.as_slice.ensures.value more.within
+    absurd (no_other c.in-Err.stop (take_reason c.in-Err.stop (host.left c.pieces.host) (host.left c.take_more.new.host) c.pieces.input.items _ c.in-Err.ensures.stops)
+    (inr (inr (same_stop c.in-Err.stop stop.DiskFault e))))
+
+pub serve-requires-clause-stands : goal.serve-requires-clause-stands
+serve-requires-clause-stands g c =
+    let host = g.H.Disk in
+    stands_stay c.pieces.store (host.seen c.pieces.host 1) (host.seen c.take_more.new.host 1) (c.in-Ok-Some.ensures.files 1 (omega arith))
+    (λ bytes none image. g.met.H.Disk.untold_is_not_left c.take_more.new.host 1 bytes (omega arith) none image) c.pieces.invariant.stands
 
 pub pieces-smaller : goal.pieces-smaller
 pieces-smaller g c =
@@ -63,60 +99,105 @@ pieces-smaller g c =
     took_shorter (host.left c.pieces.host) (host.left c.take_more.new.host) c.pieces.input.items c.take_more.new.input.items
     (rw c.in-Ok-Some.field-0-is at c.in-Ok-Some.ensures.taken)
 
+pub serve-requires-clause-within : goal.serve-requires-clause-within
+serve-requires-clause-within g c =
+    let host = g.H.Disk in
+    let view = view_of host.left host.given host.stamp host.moment host.left_since g.met.H.Disk.stamp_counts in
+    let call = c.in-Ok-Some.ensures in
+    let more = took_piece (view c.args.host.now) (view c.pieces.host) (view c.take_more.new.host) c.pieces.input.items c.take_more.new.input.items c.pieces.at
+    (state_of c.args.store.now) (state_of c.pieces.store) (host.image c.pieces.host) c.pieces.invariant.run (rw c.in-Ok-Some.field-0-is at call.taken) call.sink call.stamp
+    (stands_recovers c.pieces.store (host.seen c.pieces.host) (host.image c.pieces.host) c.pieces.invariant.stands) call.any_moment in
+    rw c.as_slice.ensures.value more.within
+
 pub pieces-preserved : goal.pieces-preserved
 pieces-preserved g c =
     let host = g.H.Disk in
-    let more = took_piece (host.left c.args.host.now) (host.left c.pieces.host) (host.left c.take_more.new.host)
-    (host.given c.args.host.now) (host.given c.pieces.host) (host.given c.take_more.new.host) c.pieces.input.items c.take_more.new.input.items
-    c.pieces.at c.pieces.tree c.pieces.invariant.run (rw c.in-Ok-Some.field-0-is at c.in-Ok-Some.ensures.taken) c.in-Ok-Some.ensures.sink in
+    let view = view_of host.left host.given host.stamp host.moment host.left_since g.met.H.Disk.stamp_counts in
+    let call = c.in-Ok-Some.ensures in
+    let more = took_piece (view c.args.host.now) (view c.pieces.host) (view c.take_more.new.host) c.pieces.input.items c.take_more.new.input.items c.pieces.at
+    (state_of c.args.store.now) (state_of c.pieces.store) (host.image c.pieces.host) c.pieces.invariant.run (rw c.in-Ok-Some.field-0-is at call.taken) call.sink call.stamp
+    (stands_recovers c.pieces.store (host.seen c.pieces.host) (host.image c.pieces.host) c.pieces.invariant.stands) call.any_moment in
     record {
-      run = served_on (host.left c.args.host.now) (host.left c.take_more.new.host) (host.left c.serve.new.host)
-          (host.given c.args.host.now) (host.given c.take_more.new.host) (host.given c.serve.new.host) c.take_more.new.input.items
-          c.pieces.at c.in-Ok.next c.pieces.tree c.serve.new.tree more.short more.given more.told (rw c.as_slice.ensures.value at c.in-Ok.ensures.served) c.in-Ok.ensures.input;
-      reads = c.in-Ok.ensures.other_faults ∙ c.in-Ok-Some.ensures.no_fault ∙ c.pieces.invariant.reads;
-      writes = c.in-Ok.ensures.no_fault ∙ c.in-Ok-Some.ensures.other_faults ∙ c.pieces.invariant.writes;
+      run = served_on (view c.args.host.now) (view c.take_more.new.host) (view c.serve.new.host) c.take_more.new.input.items c.pieces.at c.in-Ok.next
+          (state_of c.args.store.now) (state_of c.pieces.store) (state_of c.serve.new.store) more (rw c.as_slice.ensures.value at c.in-Ok.ensures.served) c.in-Ok.ensures.input;
+      stands = c.in-Ok.ensures.stands;
+      told = λ tells. c.pieces.invariant.told (tells_stay call.files (c.in-Ok.ensures.told tells));
+      reads = c.in-Ok.ensures.read_faults ∙ call.no_fault ∙ c.pieces.invariant.reads;
+      writes = c.in-Ok.ensures.no_fault ∙ call.write_faults ∙ c.pieces.invariant.writes;
+      disk = c.in-Ok.ensures.no_disk_fault ∙ call.disk_faults ∙ c.pieces.invariant.disk;
     }
 
 pub returns-in-Err-serve-clause-ran : goal.returns-in-Err-serve-clause-ran
 returns-in-Err-serve-clause-ran g c =
     let host = g.H.Disk in
-    let more = took_piece (host.left c.args.host.now) (host.left c.pieces.host) (host.left c.take_more.new.host)
-    (host.given c.args.host.now) (host.given c.pieces.host) (host.given c.take_more.new.host) c.pieces.input.items c.take_more.new.input.items
-    c.pieces.at c.pieces.tree c.pieces.invariant.run (rw c.in-Ok-Some.field-0-is at c.in-Ok-Some.ensures.taken) c.in-Ok-Some.ensures.sink in
-    served_stops (host.left c.args.host.now) (host.left c.take_more.new.host) (host.left c.serve.new.host)
-    (host.given c.args.host.now) (host.given c.take_more.new.host) (host.given c.serve.new.host) c.take_more.new.input.items
-    c.pieces.at c.pieces.tree c.in-Err-serve.stop (host.write_faults c.take_more.new.host) (host.write_faults c.serve.new.host)
-    more.short more.given more.told (rw c.as_slice.ensures.value at c.in-Err-serve.ensures.stops) c.in-Err-serve.ensures.input
+    let view = view_of host.left host.given host.stamp host.moment host.left_since g.met.H.Disk.stamp_counts in
+    let call = c.in-Ok-Some.ensures in
+    let more = took_piece (view c.args.host.now) (view c.pieces.host) (view c.take_more.new.host) c.pieces.input.items c.take_more.new.input.items c.pieces.at
+    (state_of c.args.store.now) (state_of c.pieces.store) (host.image c.pieces.host) c.pieces.invariant.run (rw c.in-Ok-Some.field-0-is at call.taken) call.sink call.stamp
+    (stands_recovers c.pieces.store (host.seen c.pieces.host) (host.image c.pieces.host) c.pieces.invariant.stands) call.any_moment in
+    served_stops (view c.args.host.now) (view c.take_more.new.host) (view c.serve.new.host) c.take_more.new.input.items c.pieces.at
+    (state_of c.args.store.now) (state_of c.pieces.store) (host.image c.serve.new.host) c.in-Err-serve.stop _ _ more (rw c.as_slice.ensures.value at c.in-Err-serve.ensures.stops)
+    c.in-Err-serve.ensures.input
+
+pub returns-in-Err-serve-clause-told : goal.returns-in-Err-serve-clause-told
+returns-in-Err-serve-clause-told g c tells = c.pieces.invariant.told (tells_stay c.in-Ok-Some.ensures.files (c.in-Err-serve.ensures.told tells))
+
+pub returns-in-Err-serve-clause-damage : goal.returns-in-Err-serve-clause-damage
+returns-in-Err-serve-clause-damage g c e =
+    let host = g.H.Disk in
+    (serve_rose c.in-Err-serve.stop false (drop c.pieces.at c.as_slice.result.now) (state_of c.pieces.store) _ (host.given c.take_more.new.host) (host.given c.serve.new.host)
+    _ _ c.in-Err-serve.ensures.stops).files (same_stop c.in-Err-serve.stop stop.Damaged e)
 
 pub returns-in-Err-serve-clause-reads : goal.returns-in-Err-serve-clause-reads
 returns-in-Err-serve-clause-reads g c e =
     let host = g.H.Disk in
-    absurd (serve_reads c.in-Err-serve.stop false (drop c.pieces.at c.as_slice.result.now) c.pieces.tree (host.given c.take_more.new.host) (host.given c.serve.new.host)
-    (host.write_faults c.take_more.new.host) (host.write_faults c.serve.new.host) c.in-Err-serve.ensures.stops (same_stop c.in-Err-serve.stop stop.ReadFault e))
+    absurd ((serve_rose c.in-Err-serve.stop false (drop c.pieces.at c.as_slice.result.now) (state_of c.pieces.store) _ (host.given c.take_more.new.host) (host.given c.serve.new.host)
+    _ _ c.in-Err-serve.ensures.stops).input (same_stop c.in-Err-serve.stop stop.ReadFault e))
 
 pub returns-in-Err-serve-clause-writes : goal.returns-in-Err-serve-clause-writes
 returns-in-Err-serve-clause-writes g c e =
     let host = g.H.Disk in
-    serve_writes c.in-Err-serve.stop false (drop c.pieces.at c.as_slice.result.now) c.pieces.tree (host.given c.take_more.new.host) (host.given c.serve.new.host)
-    (host.write_faults c.args.host.now) (host.write_faults c.take_more.new.host) (host.write_faults c.serve.new.host) c.in-Err-serve.ensures.stops
-    (c.in-Ok-Some.ensures.other_faults ∙ c.pieces.invariant.writes) (same_stop c.in-Err-serve.stop stop.WriteFault e)
+    rw (← (c.in-Ok-Some.ensures.write_faults ∙ c.pieces.invariant.writes))
+    ((serve_rose c.in-Err-serve.stop false (drop c.pieces.at c.as_slice.result.now) (state_of c.pieces.store) _ (host.given c.take_more.new.host) (host.given c.serve.new.host)
+    _ _ c.in-Err-serve.ensures.stops).sink (same_stop c.in-Err-serve.stop stop.WriteFault e))
 
-pub serve-requires-2 : goal.serve-requires-2
-serve-requires-2 g c =
+pub returns-in-Err-serve-clause-disk : goal.returns-in-Err-serve-clause-disk
+returns-in-Err-serve-clause-disk g c e =
+    let host = g.H.Disk in
+    rw (← (c.in-Ok-Some.ensures.disk_faults ∙ c.pieces.invariant.disk))
+    ((serve_rose c.in-Err-serve.stop false (drop c.pieces.at c.as_slice.result.now) (state_of c.pieces.store) _ (host.given c.take_more.new.host) (host.given c.serve.new.host)
+    _ _ c.in-Err-serve.ensures.stops).disk (same_stop c.in-Err-serve.stop stop.DiskFault e))
+
+pub serve-requires-2-clause-within : goal.serve-requires-2-clause-within
+serve-requires-2-clause-within g c =
     let none = rw c.in-Ok-None.field-0-is at c.in-Ok-None.ensures.taken in
     rw (c.as_slice-2.ensures.value, none.0) c.pieces.invariant.run.within
+
+pub serve-requires-2-clause-stands : goal.serve-requires-2-clause-stands
+serve-requires-2-clause-stands g c =
+    let host = g.H.Disk in
+    stands_stay c.pieces.store (host.seen c.pieces.host 1) (host.seen c.take_more.new.host 1) (c.in-Ok-None.ensures.files 1 (omega arith))
+    (λ bytes none image. g.met.H.Disk.untold_is_not_left c.take_more.new.host 1 bytes (omega arith) none image) c.pieces.invariant.stands
 
 pub returns-in-Ok-serve-clause-ran : goal.returns-in-Ok-serve-clause-ran
 returns-in-Ok-serve-clause-ran g c =
     let host = g.H.Disk in
-    let none = rw c.in-Ok-None.field-0-is at c.in-Ok-None.ensures.taken in
-    let run = c.pieces.invariant.run in
-    finished (host.left c.args.host.now) (host.left c.take_more.new.host) (host.left c.serve-2.new.host)
-    (host.given c.args.host.now) (host.given c.take_more.new.host) (host.given c.serve-2.new.host) c.pieces.input.items
-    c.pieces.at c.in-Ok-serve.field-0 c.pieces.tree c.serve-2.new.tree run.short
-    (so_far_kept c.pieces.input.items c.pieces.at c.pieces.tree (host.given c.args.host.now) (host.given c.pieces.host) (host.given c.take_more.new.host) run.given c.in-Ok-None.ensures.sink)
-    (ended (host.left c.args.host.now) (host.left c.pieces.host) (host.left c.take_more.new.host) c.pieces.input.items run.told none.1)
+    let view = view_of host.left host.given host.stamp host.moment host.left_since g.met.H.Disk.stamp_counts in
+    let call = c.in-Ok-None.ensures in
+    let none = rw c.in-Ok-None.field-0-is at call.taken in
+    let came = all_came (view c.args.host.now) (view c.pieces.host) (view c.take_more.new.host) c.pieces.input.items c.take_more.new.input.items c.pieces.at
+    (state_of c.args.store.now) (state_of c.pieces.store) (host.image c.pieces.host) c.pieces.invariant.run none call.sink call.stamp
+    (stands_recovers c.pieces.store (host.seen c.pieces.host) (host.image c.pieces.host) c.pieces.invariant.stands) call.any_moment in
+    finished (view c.args.host.now) (view c.take_more.new.host) (view c.serve-2.new.host) c.pieces.input.items c.pieces.at c.in-Ok-serve.field-0
+    (state_of c.args.store.now) (state_of c.pieces.store) (state_of c.serve-2.new.store) (host.image c.serve-2.new.host) came
     (rw (c.as_slice-2.ensures.value, none.0) at c.in-Ok-serve.ensures.served) c.in-Ok-serve.ensures.input
+    (stands_recovers c.serve-2.new.store (host.seen c.serve-2.new.host) (host.image c.serve-2.new.host) c.in-Ok-serve.ensures.stands)
+
+pub returns-in-Ok-serve-clause-told : goal.returns-in-Ok-serve-clause-told
+returns-in-Ok-serve-clause-told g c tells = c.pieces.invariant.told (tells_stay c.in-Ok-None.ensures.files (c.in-Ok-serve.ensures.told tells))
+
+pub returns-in-Ok-serve-clause-damage : goal.returns-in-Ok-serve-clause-damage
+returns-in-Ok-serve-clause-damage g c e = not_ended stop.Damaged e
 
 pub returns-in-Ok-serve-clause-reads : goal.returns-in-Ok-serve-clause-reads
 returns-in-Ok-serve-clause-reads g c e = absurd (not_ended stop.ReadFault e)
@@ -124,27 +205,47 @@ returns-in-Ok-serve-clause-reads g c e = absurd (not_ended stop.ReadFault e)
 pub returns-in-Ok-serve-clause-writes : goal.returns-in-Ok-serve-clause-writes
 returns-in-Ok-serve-clause-writes g c e = absurd (not_ended stop.WriteFault e)
 
+pub returns-in-Ok-serve-clause-disk : goal.returns-in-Ok-serve-clause-disk
+returns-in-Ok-serve-clause-disk g c e = absurd (not_ended stop.DiskFault e)
+
 pub returns-clause-ran : goal.returns-clause-ran
 returns-clause-ran g c =
     let host = g.H.Disk in
-    let none = rw c.in-Ok-None.field-0-is at c.in-Ok-None.ensures.taken in
-    let run = c.pieces.invariant.run in
-    finish_stops (host.left c.args.host.now) (host.left c.take_more.new.host) (host.left c.serve-2.new.host)
-    (host.given c.args.host.now) (host.given c.take_more.new.host) (host.given c.serve-2.new.host) c.pieces.input.items
-    c.pieces.at c.pieces.tree c.in-Err-serve-2.stop (host.write_faults c.take_more.new.host) (host.write_faults c.serve-2.new.host) run.short
-    (so_far_kept c.pieces.input.items c.pieces.at c.pieces.tree (host.given c.args.host.now) (host.given c.pieces.host) (host.given c.take_more.new.host) run.given c.in-Ok-None.ensures.sink)
-    (ended (host.left c.args.host.now) (host.left c.pieces.host) (host.left c.take_more.new.host) c.pieces.input.items run.told none.1)
+    let view = view_of host.left host.given host.stamp host.moment host.left_since g.met.H.Disk.stamp_counts in
+    let call = c.in-Ok-None.ensures in
+    let none = rw c.in-Ok-None.field-0-is at call.taken in
+    let came = all_came (view c.args.host.now) (view c.pieces.host) (view c.take_more.new.host) c.pieces.input.items c.take_more.new.input.items c.pieces.at
+    (state_of c.args.store.now) (state_of c.pieces.store) (host.image c.pieces.host) c.pieces.invariant.run none call.sink call.stamp
+    (stands_recovers c.pieces.store (host.seen c.pieces.host) (host.image c.pieces.host) c.pieces.invariant.stands) call.any_moment in
+    finish_stops (view c.args.host.now) (view c.take_more.new.host) (view c.serve-2.new.host) c.pieces.input.items c.pieces.at
+    (state_of c.args.store.now) (state_of c.pieces.store) (host.image c.serve-2.new.host) c.in-Err-serve-2.stop _ _ came
     (rw (c.as_slice-2.ensures.value, none.0) at c.in-Err-serve-2.ensures.stops) c.in-Err-serve-2.ensures.input
+
+pub returns-clause-told : goal.returns-clause-told
+returns-clause-told g c tells = c.pieces.invariant.told (tells_stay c.in-Ok-None.ensures.files (c.in-Err-serve-2.ensures.told tells))
+
+pub returns-clause-damage : goal.returns-clause-damage
+returns-clause-damage g c e =
+    let host = g.H.Disk in
+    (serve_rose c.in-Err-serve-2.stop true (drop c.pieces.at c.as_slice-2.result.now) (state_of c.pieces.store) _ (host.given c.take_more.new.host) (host.given c.serve-2.new.host)
+    _ _ c.in-Err-serve-2.ensures.stops).files (same_stop c.in-Err-serve-2.stop stop.Damaged e)
 
 pub returns-clause-reads : goal.returns-clause-reads
 returns-clause-reads g c e =
     let host = g.H.Disk in
-    absurd (serve_reads c.in-Err-serve-2.stop true (drop c.pieces.at c.as_slice-2.result.now) c.pieces.tree (host.given c.take_more.new.host) (host.given c.serve-2.new.host)
-    (host.write_faults c.take_more.new.host) (host.write_faults c.serve-2.new.host) c.in-Err-serve-2.ensures.stops (same_stop c.in-Err-serve-2.stop stop.ReadFault e))
+    absurd ((serve_rose c.in-Err-serve-2.stop true (drop c.pieces.at c.as_slice-2.result.now) (state_of c.pieces.store) _ (host.given c.take_more.new.host) (host.given c.serve-2.new.host)
+    _ _ c.in-Err-serve-2.ensures.stops).input (same_stop c.in-Err-serve-2.stop stop.ReadFault e))
 
 pub returns-clause-writes : goal.returns-clause-writes
 returns-clause-writes g c e =
     let host = g.H.Disk in
-    serve_writes c.in-Err-serve-2.stop true (drop c.pieces.at c.as_slice-2.result.now) c.pieces.tree (host.given c.take_more.new.host) (host.given c.serve-2.new.host)
-    (host.write_faults c.args.host.now) (host.write_faults c.take_more.new.host) (host.write_faults c.serve-2.new.host) c.in-Err-serve-2.ensures.stops
-    (c.in-Ok-None.ensures.other_faults ∙ c.pieces.invariant.writes) (same_stop c.in-Err-serve-2.stop stop.WriteFault e)
+    rw (← (c.in-Ok-None.ensures.write_faults ∙ c.pieces.invariant.writes))
+    ((serve_rose c.in-Err-serve-2.stop true (drop c.pieces.at c.as_slice-2.result.now) (state_of c.pieces.store) _ (host.given c.take_more.new.host) (host.given c.serve-2.new.host)
+    _ _ c.in-Err-serve-2.ensures.stops).sink (same_stop c.in-Err-serve-2.stop stop.WriteFault e))
+
+pub returns-clause-disk : goal.returns-clause-disk
+returns-clause-disk g c e =
+    let host = g.H.Disk in
+    rw (← (c.in-Ok-None.ensures.disk_faults ∙ c.pieces.invariant.disk))
+    ((serve_rose c.in-Err-serve-2.stop true (drop c.pieces.at c.as_slice-2.result.now) (state_of c.pieces.store) _ (host.given c.take_more.new.host) (host.given c.serve-2.new.host)
+    _ _ c.in-Err-serve-2.ensures.stops).disk (same_stop c.in-Err-serve-2.stop stop.DiskFault e))

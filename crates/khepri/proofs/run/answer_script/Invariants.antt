@@ -1,15 +1,22 @@
 use Rattle.std.proofs.Common.{◌≡◌, ◌-◌, length}
-use Rattle.khepri.specs.Session.{script_limit}
-use Rattle.khepri.proofs.Running.{IsRunning}
+use Rattle.kh_io.specs.Disk.{TellsFiles}
+use Rattle.khepri.specs.Script.{script_limit}
+use Rattle.khepri.specs.Store.{state_of, Stands}
+use Rattle.khepri.proofs.Running.{IsRunning, view_of}
 use Rattle.khepri.proofs.run.answer_script.Given as goal
 
 abbrev pub invariant-pieces : goal.invariant-pieces
 invariant-pieces g l =
     let host = g.H.Disk in
     record {
-      run : IsRunning (host.left l.fn.host) (host.left l.host) (host.given l.fn.host) (host.given l.host) l.input.items l.at l.tree;
+      run : IsRunning (view_of host.left host.given host.stamp host.moment host.left_since g.met.H.Disk.stamp_counts l.fn.host)
+          (view_of host.left host.given host.stamp host.moment host.left_since g.met.H.Disk.stamp_counts l.host)
+          l.input.items l.at (state_of l.fn.store) (state_of l.store);
+      stands : Stands l.store (host.seen l.host 1) (host.image l.host 1);
+      told : TellsFiles (host.seen l.host) → TellsFiles (host.seen l.fn.host);
       reads : host.read_faults l.host ≡ host.read_faults l.fn.host;
       writes : host.write_faults l.host ≡ host.write_faults l.fn.host;
+      disk : host.disk_faults l.host ≡ host.disk_faults l.fn.host;
     }
 
 abbrev pub decreases-pieces : goal.decreases-pieces

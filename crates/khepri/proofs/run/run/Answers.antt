@@ -1,8 +1,136 @@
-use Rattle.khepri.proofs.Running.{nothing_done}
+use Rattle.std.proofs.Common.{◌≡◌, ◌⊎◌, ◌∙◌, ℕ, List, Option, ap, refl, inl, inr, Err}
+use Rattle.std.specs.Prelude.{Result}
+use Rattle.kh_io.specs.Told.{Extends, IsFrontOf}
+use Rattle.kh_io.proofs.Telling.{told_map}
+use Rattle.khepri.specs.declared.session.Stop.{Stop}
+use Rattle.khepri.specs.declared.session.Stop.TheVariants as stop
+use Rattle.khepri.specs.declared.store.OpenError.{OpenError}
+use Rattle.khepri.specs.Run.{stop_status, IsCutOff, damage_line}
+use Rattle.khepri.specs.Store.{Opened, state_of}
+use Rattle.khepri.proofs.Entry.{runs_opened, runs_damaged, runs_unopened, runs_untouched, finds_damage}
 use Rattle.khepri.proofs.run.run.Goals as goal
 
-pub returns-in_default-clause-ran : goal.returns-in_default-clause-ran
-returns-in_default-clause-ran g c = let host = g.H.Disk in nothing_done (host.left c.args.host.now) (host.given c.args.host.now)
+abbrev stopped : Stop → Result (Unit {0}) Stop
+stopped s = Err s
 
-pub returns-in_default-vec-clause-ran : goal.returns-in_default-vec-clause-ran
-returns-in_default-vec-clause-ran g c = let host = g.H.Disk in nothing_done (host.left c.args.host.now) (host.given c.args.host.now)
+same_stop : (s t : Stop) → stopped s ≡ stopped t → s ≡ t
+same_stop s t e = cc
+
+abbrev unopened : OpenError → Result Opened OpenError
+unopened e = Err e
+
+refused : {x y : OpenError} → x ≡ y → unopened x ≡ unopened y
+refused e = ap unopened e
+
+abbrev Reported : Stop → Type 0
+Reported s = (s ≡ stop.Damaged) ⊎ ((s ≡ stop.WriteFault) ⊎ (s ≡ stop.NoMemory))
+
+-- the status of a report
+reported : (s : Stop) → Reported s → (stop_status s ≡ 1) ⊎ IsCutOff (stop_status s)
+reported s (inl e) = inl (ap stop_status e)
+reported s (inr (inl e)) = inr (inr (inl (ap stop_status e)))
+reported s (inr (inr e)) = inr (inr (inr (inr (ap stop_status e))))
+
+is_damage : (s : Stop) → stop_status s ≡ 1 → s ≡ stop.Damaged
+is_damage stop.Damaged e = refl
+is_damage stop.Syntax e = absurd cc
+is_damage stop.ReadFault e = absurd cc
+is_damage stop.WriteFault e = absurd cc
+is_damage stop.DiskFault e = absurd cc
+is_damage stop.TooLong e = absurd cc
+is_damage stop.NoMemory e = absurd cc
+
+-- the whole line is given exactly at the status of damage
+line_by_status : (s : Stop) (file offset : ℕ) (old new : Option (List ℕ))
+    → Extends old new (λ more. IsFrontOf more (damage_line file offset) × (s ≡ stop.Damaged → more ≡ damage_line file offset))
+    → Extends old new (λ more. IsFrontOf more (damage_line file offset) × (stop_status s ≡ 1 → more ≡ damage_line file offset))
+line_by_status s file offset old new given = told_map old new given (λ x y p. (p.0, p.1, (p.2.0, λ e. p.2.1 (is_damage s e))))
+
+no_other : (s : Stop) → Reported s → (s ≡ stop.ReadFault) ⊎ (s ≡ stop.DiskFault) → ⊥
+no_other s (inl e) (inl f) = cc
+no_other s (inl e) (inr f) = cc
+no_other s (inr (inl e)) (inl f) = cc
+no_other s (inr (inl e)) (inr f) = cc
+no_other s (inr (inr e)) (inl f) = cc
+no_other s (inr (inr e)) (inr f) = cc
+
+pub returns-in_default-clause-ran : goal.returns-in_default-clause-ran
+returns-in_default-clause-ran g c =
+    let host = g.H.Disk in
+    runs_untouched (host.seen c.args.host.now) (host.image c.args.host.now) (host.left c.args.host.now) (host.given c.args.host.now) (host.stamp c.args.host.now)
+    (host.moment c.args.host.now) (host.left_since c.args.host.now) (g.met.H.Disk.only_now c.args.host.now)
+
+pub returns-in-Ok-open-clause-ran : goal.returns-in-Ok-open-clause-ran
+returns-in-Ok-open-clause-ran g c =
+    let host = g.H.Disk in
+    let opened = c.in-Ok-open.ensures in
+    let ran = c.answer_script.ensures in
+    runs_opened (state_of c.in-Ok-open.store) _ (host.seen c.args.host.now) (host.seen c.open.new.host) (host.seen c.answer_script.new.host)
+    (host.image c.args.host.now) (host.image c.answer_script.new.host) (host.left c.args.host.now) (host.left c.open.new.host) (host.left c.answer_script.new.host)
+    (host.given c.args.host.now) (host.given c.open.new.host) (host.given c.answer_script.new.host) (host.stamp c.args.host.now) (host.stamp c.open.new.host)
+    (host.moment c.args.host.now) (host.moment c.open.new.host) (host.moment c.answer_script.new.host)
+    (host.left_since c.args.host.now) (host.left_since c.open.new.host) (host.left_since c.answer_script.new.host)
+    opened.recovered ran.told opened.stamp opened.any_moment opened.input opened.sink ran.ran
+
+pub returns-in-Err-Damaged-clause-ran : goal.returns-in-Err-Damaged-clause-ran
+returns-in-Err-Damaged-clause-ran g c =
+    let host = g.H.Disk in
+    let opened = c.in-Err-Damaged.ensures in
+    let report = c.report.ensures in
+    runs_damaged c.in-Err-Damaged.file c.in-Err-Damaged.offset (stop_status c.report.result)
+    (host.seen c.args.host.now) (host.seen c.open.new.host) (host.seen c.report.new.host)
+    (host.image c.args.host.now) (host.image c.open.new.host) (host.image c.report.new.host)
+    (host.left c.args.host.now) (host.left c.open.new.host) (host.left c.report.new.host)
+    (host.given c.args.host.now) (host.given c.open.new.host) (host.given c.report.new.host)
+    (host.stamp c.args.host.now) (host.stamp c.open.new.host) (host.stamp c.report.new.host)
+    (host.moment c.args.host.now) (host.moment c.open.new.host) (host.moment c.report.new.host)
+    (host.left_since c.args.host.now) (host.left_since c.open.new.host) (host.left_since c.report.new.host)
+    (opened.damaged c.in-Err-Damaged.file c.in-Err-Damaged.offset (refused c.in-Err-Damaged.field-0-is)) opened.reads report.files opened.any_moment report.any_moment
+    (λ files images. g.met.H.Disk.counts_now c.open.new.host (host.moment c.args.host.now) files opened.any_moment.later images)
+    opened.input report.input opened.sink (line_by_status c.report.result c.in-Err-Damaged.file c.in-Err-Damaged.offset (host.given c.open.new.host) (host.given c.report.new.host) report.line) (reported c.report.result report.how)
+
+pub returns-in-Err-Damaged-clause-damage : goal.returns-in-Err-Damaged-clause-damage
+returns-in-Err-Damaged-clause-damage g c e =
+    let host = g.H.Disk in
+    finds_damage c.in-Err-Damaged.file c.in-Err-Damaged.offset (host.seen c.args.host.now) (host.seen c.open.new.host) (host.seen c.report.new.host)
+    (host.image c.open.new.host) (host.image c.report.new.host)
+    (c.in-Err-Damaged.ensures.damaged c.in-Err-Damaged.file c.in-Err-Damaged.offset (refused c.in-Err-Damaged.field-0-is)) c.report.ensures.files
+
+pub returns-in-Err-Damaged-clause-reads : goal.returns-in-Err-Damaged-clause-reads
+returns-in-Err-Damaged-clause-reads g c e = absurd (no_other c.report.result c.report.ensures.how (inl (same_stop c.report.result stop.ReadFault e)))
+
+pub returns-in-Err-Damaged-clause-writes : goal.returns-in-Err-Damaged-clause-writes
+returns-in-Err-Damaged-clause-writes g c e =
+    rw (← c.in-Err-Damaged.ensures.write_faults) (c.report.ensures.fault (same_stop c.report.result stop.WriteFault e))
+
+pub returns-in-Err-Damaged-clause-disk : goal.returns-in-Err-Damaged-clause-disk
+returns-in-Err-Damaged-clause-disk g c e = absurd (no_other c.report.result c.report.ensures.how (inr (same_stop c.report.result stop.DiskFault e)))
+
+pub returns-in-Err-Damaged-clause-no_read_fault : goal.returns-in-Err-Damaged-clause-no_read_fault
+returns-in-Err-Damaged-clause-no_read_fault g c e = c.report.ensures.read_faults ∙ c.in-Err-Damaged.ensures.read_faults
+
+pub returns-in-Err-Damaged-clause-no_write_fault : goal.returns-in-Err-Damaged-clause-no_write_fault
+returns-in-Err-Damaged-clause-no_write_fault g c e =
+    c.report.ensures.no_fault (same_stop c.report.result stop.Damaged e) ∙ c.in-Err-Damaged.ensures.write_faults
+
+pub returns-in-Err-Damaged-clause-no_disk_fault : goal.returns-in-Err-Damaged-clause-no_disk_fault
+returns-in-Err-Damaged-clause-no_disk_fault g c e =
+    c.report.ensures.disk_faults ∙ c.in-Err-Damaged.ensures.no_fault_damaged c.in-Err-Damaged.file c.in-Err-Damaged.offset (refused c.in-Err-Damaged.field-0-is)
+
+pub returns-in-Err-DiskFault-clause-ran : goal.returns-in-Err-DiskFault-clause-ran
+returns-in-Err-DiskFault-clause-ran g c =
+    let host = g.H.Disk in
+    let opened = c.in-Err-DiskFault.ensures in
+    runs_unopened 5 (host.seen c.args.host.now) (host.seen c.open.new.host) (host.image c.args.host.now) (host.image c.open.new.host)
+    (host.left c.args.host.now) (host.left c.open.new.host) (host.given c.args.host.now) (host.given c.open.new.host) (host.stamp c.args.host.now)
+    (host.moment c.args.host.now) (host.moment c.open.new.host) (host.left_since c.args.host.now) (host.left_since c.open.new.host)
+    opened.reads opened.any_moment opened.input opened.sink (inl refl)
+
+pub returns-clause-ran : goal.returns-clause-ran
+returns-clause-ran g c =
+    let host = g.H.Disk in
+    let opened = c.in-Err-NoMemory.ensures in
+    runs_unopened 6 (host.seen c.args.host.now) (host.seen c.open.new.host) (host.image c.args.host.now) (host.image c.open.new.host)
+    (host.left c.args.host.now) (host.left c.open.new.host) (host.given c.args.host.now) (host.given c.open.new.host) (host.stamp c.args.host.now)
+    (host.moment c.args.host.now) (host.moment c.open.new.host) (host.left_since c.args.host.now) (host.left_since c.open.new.host)
+    opened.reads opened.any_moment opened.input opened.sink (inr refl)

@@ -1,17 +1,45 @@
-use Rattle.std.proofs.Common.{◌≡◌, ◌∙◌, length, drop, arith}
+use Rattle.std.proofs.Common.{◌≡◌, ◌∙◌, length, drop, refl, arith}
 use Rattle.std.proofs.lemmas.List.{drop_all}
-use Rattle.khepri.proofs.Lines.{one_line, no_reply, to_fault, to_cut, to_front, some_left, rests_at_end, rests_cut}
-use Rattle.khepri.proofs.Giving.{kept_then}
+use Rattle.kh_io.proofs.Telling.{kept_both}
+use Rattle.khepri.specs.Store.{state_of}
+use Rattle.kh_log.proofs.Walk.{kept_same}
+use Rattle.khepri.proofs.Stands.{stands_recovers}
+use Rattle.khepri.proofs.Admitted.{line_is_command}
+use Rattle.khepri.proofs.Lines.{counts, nothing_served, one_line, no_reply, to_fault, to_cut, to_front, some_left, rests_at_end, rests_cut}
 use Rattle.khepri.proofs.session.serve.Goals as goal
+
+pub lines-init : goal.lines-init
+lines-init g c =
+    let host = g.H.Disk in
+    record {
+      within = c.requires.within;
+      given = nothing_served c.args.is_end (drop c.args.at c.args.input.now) (state_of c.args.store.now) (host.given c.args.host.now) _ _ _ (λ files s left.
+          let now = g.met.H.Disk.only_now c.args.host.now files s left in
+          (stands_recovers c.args.store.now (host.seen c.args.host.now) (host.image c.args.host.now) c.requires.stands files now.0, now.1));
+      stands = c.requires.stands;
+      told = λ tells. tells;
+      no_fault = refl;
+      no_disk_fault = refl;
+      input = kept_same (host.left c.args.host.now);
+      read_faults = refl;
+    }
+
+pub answer-requires-clause-command : goal.answer-requires-clause-command
+answer-requires-clause-command g c =
+    let line = rw c.in-Ok-Form.field-0-is at c.in-Ok-Form.ensures in
+    line_is_command c.args.is_end (drop c.lines.place c.args.input.now) c.in-Ok-Form.form (drop c.in-Ok-Form.next c.args.input.now) line.0
 
 pub returns-in-Err-answer-clause-stops : goal.returns-in-Err-answer-clause-stops
 returns-in-Err-answer-clause-stops g c =
     let host = g.H.Disk in
     let line = rw c.in-Ok-Form.field-0-is at c.in-Ok-Form.ensures in
+    let before = c.lines.invariant in
+    let call = c.in-Err-answer.ensures in
     no_reply c.args.is_end (drop c.args.at c.args.input.now) (drop c.lines.place c.args.input.now) (drop c.in-Ok-Form.next c.args.input.now)
-    c.args.tree.now c.lines.tree c.in-Ok-Form.form (host.given c.args.host.now) (host.given c.lines.host) (host.given c.answer.new.host)
-    c.in-Err-answer.stop (host.write_faults c.args.host.now) (host.write_faults c.lines.host) (host.write_faults c.answer.new.host)
-    c.lines.invariant.given line.0 c.in-Err-answer.ensures.front c.in-Err-answer.ensures.stops c.lines.invariant.no_fault
+    (state_of c.args.store.now) (state_of c.lines.store) c.in-Ok-Form.form (host.given c.args.host.now) (host.given c.lines.host) (host.given c.answer.new.host)
+    (host.stamp c.args.host.now) (host.stamp c.lines.host) (host.stamp c.answer.new.host) _ _ c.in-Err-answer.stop
+    (counts _ _ (g.met.H.Disk.stamp_counts c.args.host.now)) (counts _ _ (g.met.H.Disk.stamp_counts c.lines.host)) (counts _ _ (g.met.H.Disk.stamp_counts c.answer.new.host))
+    before.given line.0 call.front call.any_moment call.stops (λ rose. rw (← before.no_fault) rose) (λ rose. rw (← before.no_disk_fault) rose)
 
 pub lines-preserved : goal.lines-preserved
 lines-preserved g c =
@@ -21,12 +49,18 @@ lines-preserved g c =
     let line = rw c.in-Ok-Form.field-0-is at c.in-Ok-Form.ensures in
     record {
       within = line.2;
-      given = rw call.tree (one_line c.args.is_end (drop c.args.at c.args.input.now) (drop c.lines.place c.args.input.now) (drop c.in-Ok-Form.next c.args.input.now)
-          c.args.tree.now c.lines.tree c.in-Ok-Form.form (host.given c.args.host.now) (host.given c.lines.host) (host.given c.answer.new.host)
-          before.given line.0 call.given);
+      given = one_line c.args.is_end (drop c.args.at c.args.input.now) (drop c.lines.place c.args.input.now) (drop c.in-Ok-Form.next c.args.input.now)
+          (state_of c.args.store.now) (state_of c.lines.store) (state_of c.answer.new.store) c.in-Ok-Form.form
+          (host.given c.args.host.now) (host.given c.lines.host) (host.given c.answer.new.host)
+          (host.stamp c.args.host.now) (host.stamp c.lines.host) (host.stamp c.answer.new.host) _ _
+          (counts _ _ (g.met.H.Disk.stamp_counts c.args.host.now)) (counts _ _ (g.met.H.Disk.stamp_counts c.lines.host)) (counts _ _ (g.met.H.Disk.stamp_counts c.answer.new.host))
+          before.given line.0 call.given call.any_moment call.after;
+      stands = call.stands;
+      told = λ tells. before.told (call.told tells);
       no_fault = call.no_fault ∙ before.no_fault;
-      input = kept_then (host.left c.args.host.now) (host.left c.lines.host) (host.left c.answer.new.host) before.input call.input;
-      other_faults = call.other_faults ∙ before.other_faults;
+      no_disk_fault = call.no_disk_fault ∙ before.no_disk_fault;
+      input = kept_both (host.left c.args.host.now) (host.left c.lines.host) (host.left c.answer.new.host) before.input call.input;
+      read_faults = call.read_faults ∙ before.read_faults;
     }
 
 pub returns-in-Ok-End-clause-served : goal.returns-in-Ok-End-clause-served
@@ -35,20 +69,20 @@ returns-in-Ok-End-clause-served g c =
     record {
       within = c.lines.invariant.within;
       given = c.lines.invariant.given;
-      rests = rests_at_end c.args.is_end (drop c.lines.place c.args.input.now) c.lines.tree (drop_all c.lines.place c.args.input.now (omega arith));
+      rests = rests_at_end c.args.is_end (drop c.lines.place c.args.input.now) (drop_all c.lines.place c.args.input.now (omega arith));
     }
 
 pub returns-in-Ok-Fault-clause-stops : goal.returns-in-Ok-Fault-clause-stops
 returns-in-Ok-Fault-clause-stops g c =
     let host = g.H.Disk in
-    to_fault c.args.is_end (drop c.args.at c.args.input.now) (drop c.lines.place c.args.input.now) c.args.tree.now c.lines.tree
+    to_fault c.args.is_end (drop c.args.at c.args.input.now) (drop c.lines.place c.args.input.now) (state_of c.args.store.now) (state_of c.lines.store) _
     (host.given c.args.host.now) (host.given c.lines.host) c.lines.invariant.given (rw c.in-Ok-Fault.field-0-is at c.in-Ok-Fault.ensures)
 
 pub returns-then-is_end-clause-stops : goal.returns-then-is_end-clause-stops
 returns-then-is_end-clause-stops g c =
     let host = g.H.Disk in
     let line = rw c.in-Ok-Unfinished.field-0-is at c.in-Ok-Unfinished.ensures in
-    to_cut c.args.is_end (drop c.args.at c.args.input.now) (drop c.lines.place c.args.input.now) c.args.tree.now c.lines.tree
+    to_cut c.args.is_end (drop c.args.at c.args.input.now) (drop c.lines.place c.args.input.now) (state_of c.args.store.now) (state_of c.lines.store) _
     (host.given c.args.host.now) (host.given c.lines.host) c.if-is_end.true c.lines.invariant.given
     (some_left c.args.input.now c.lines.place line.0) line.1
 
@@ -58,12 +92,12 @@ returns-else-is_end-clause-served g c =
     record {
       within = c.lines.invariant.within;
       given = c.lines.invariant.given;
-      rests = rests_cut c.args.is_end (drop c.lines.place c.args.input.now) c.lines.tree c.if-is_end.false
+      rests = rests_cut c.args.is_end (drop c.lines.place c.args.input.now) c.if-is_end.false
           (some_left c.args.input.now c.lines.place line.0) line.1;
     }
 
 pub returns-in-Err-clause-stops : goal.returns-in-Err-clause-stops
 returns-in-Err-clause-stops g c =
     let host = g.H.Disk in
-    to_front c.args.is_end (drop c.args.at c.args.input.now) (drop c.lines.place c.args.input.now) c.args.tree.now c.lines.tree
+    to_front c.args.is_end (drop c.args.at c.args.input.now) (drop c.lines.place c.args.input.now) (state_of c.args.store.now) (state_of c.lines.store) _
     (host.given c.args.host.now) (host.given c.lines.host) c.lines.invariant.given

@@ -1,6 +1,8 @@
 use Rattle.std.proofs.Common.{◌≡◌, ◌-◌, ◌≤◌, length, drop}
 use Rattle.kh_io.specs.Told.{Kept}
-use Rattle.khepri.proofs.Lines.{SoFar}
+use Rattle.kh_io.specs.Disk.{TellsFiles}
+use Rattle.khepri.specs.Store.{state_of, Stands}
+use Rattle.khepri.proofs.Lines.{SoFar, span_to}
 use Rattle.khepri.proofs.session.serve.Given as goal
 
 abbrev pub invariant-lines : goal.invariant-lines
@@ -8,10 +10,15 @@ invariant-lines g l =
     let host = g.H.Disk in
     record {
       within : l.place ≤ length l.fn.input;
-      given : SoFar l.fn.is_end (drop l.fn.at l.fn.input) (drop l.place l.fn.input) l.fn.tree l.tree (host.given l.fn.host) (host.given l.host);
+      given : SoFar l.fn.is_end (drop l.fn.at l.fn.input) (drop l.place l.fn.input) (state_of l.fn.store) (state_of l.store)
+          (span_to (host.stamp l.fn.host) (host.moment l.fn.host) (host.moment l.host) (host.left_since l.fn.host) (host.left_since l.host))
+          (host.given l.fn.host) (host.given l.host);
+      stands : Stands l.store (host.seen l.host 1) (host.image l.host 1);
+      told : TellsFiles (host.seen l.host) → TellsFiles (host.seen l.fn.host);
       no_fault : host.write_faults l.host ≡ host.write_faults l.fn.host;
+      no_disk_fault : host.disk_faults l.host ≡ host.disk_faults l.fn.host;
       input : Kept (host.left l.fn.host) (host.left l.host);
-      other_faults : host.read_faults l.host ≡ host.read_faults l.fn.host;
+      read_faults : host.read_faults l.host ≡ host.read_faults l.fn.host;
     }
 
 abbrev pub decreases-lines : goal.decreases-lines

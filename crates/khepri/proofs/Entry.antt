@@ -1,0 +1,259 @@
+-- A run from the files at entry: the store is opened, and then the script is answered, or damage is reported.
+use Rattle.std.proofs.Common.{◌≡◌, ℕ, zero, suc, ◌+◌, ◌-◌, ◌<◌, ◌≤◌, Bool, true, false, leb, List, [], ◌++◌, length, take, Option, Some, None, refl, sym, ap, subst, ◌∙◌, inl, inr, ◌⊎◌, arith}
+use Rattle.std.specs.Prelude.{IfSome, IsSome}
+use Rattle.std.proofs.lemmas.List.{append-nil}
+use Rattle.kh_io.specs.declared.files.Files.{Files}
+use Rattle.kh_io.specs.Told.{Told, Kept, Extends, IsFrontOf}
+use Rattle.kh_io.specs.Disk.{file_of, AreImages, TellsFiles, Stays, FilesStay, LeavesOnly}
+use Rattle.kh_io.proofs.Moments.{started, both, weakened, images_stay}
+use Rattle.kh_io.proofs.Telling.{told_map, told_both, kept_both}
+use Rattle.kh_log.specs.Records.{records_of, lacking_in, Content}
+use Rattle.kh_log.proofs.Records.{content_of-short}
+use Rattle.kh_read.specs.declared.form.Form.{Form}
+use Rattle.khepri.specs.State.{State, empty, state_after, text_of}
+use Rattle.khepri.specs.Recovery.{Recovery, Recovered, Damaged, Replays, ends, ReplaysUnless, Recovers}
+use Rattle.khepri.specs.Store.{FilesTold, IsShort, Opening, ReadsAsBefore}
+use Rattle.khepri.specs.Script.{Ending, WholeScript}
+use Rattle.khepri.specs.Session.{Untouched, KeepsAnswered}
+use Rattle.khepri.specs.Serving.{Span}
+use Rattle.khepri.specs.Run.{IsCutOff, AtEntry, Never, Ran, Ends, damage_line, Reports, Runs, FindsDamage}
+use Rattle.khepri.proofs.Recovery.{recovery_one}
+use Rattle.khepri.proofs.Scripts.{script_exists}
+use Rattle.khepri.proofs.Stands.{some_of}
+use Rattle.khepri.proofs.Open.{told_back, files_there}
+use Rattle.khepri.proofs.Lines.{told_same}
+
+-- ---- files that are told
+
+-- a read gives these files
+abbrev pub AreSeen : (ℕ → Option (List ℕ)) → Files → Type 0
+AreSeen seen files = (file : ℕ) → file < 4 → seen file ≡ Some (file_of files file)
+
+pub reads_tell : (seen seen' : ℕ → Option (List ℕ)) → ReadsAsBefore seen seen' → TellsFiles seen' → TellsFiles seen
+reads_tell seen seen' reads tells file lt = told_back _ (seen file) (seen' file) (reads file lt) (tells file lt)
+
+-- ---- file 1 holds no log
+
+short_recovers : (files : Files) → IsShort files.l0 → Recovers files (Recovered empty)
+short_recovers files short =
+    let none = content_of-short files.l0 short in
+    subst (λ (c : Content). ReplaysUnless c.lacking c.records (Recovered empty)) (sym none) (ends empty)
+
+-- ---- what a crash leaves while the store is opened
+
+-- the recovery of files that hold no log
+short_is_empty : (seen : ℕ → Option (List ℕ)) (files : Files) (found : Recovery) → AreSeen seen files → IfSome (seen 1) IsShort → Recovers files found → found ≡ Recovered empty
+short_is_empty seen files found are short recovers =
+    recovery_one files found (Recovered empty) recovers (short_recovers files (some_of IsShort (seen 1) files.l0 (are 1 (omega arith)) short))
+
+opening_keeps : (seen : ℕ → Option (List ℕ)) (image : ℕ → List ℕ → Type 0) (given : ℕ) (files : Files) (first : State) (forms : List Form)
+    → AreSeen seen files → Recovers files (Recovered first) → (left : Files) (s : ℕ) → Opening seen image given left s
+    → AtEntry image given left s ⊎ KeepsAnswered first forms given left s
+opening_keeps seen image given files first forms are recovers left s opening = elim opening.left [
+  | inl images ↦ inl (images, opening.stamp)
+  | inr short ↦ inr (record {
+    k = 0;
+    within = omega arith;
+    recovers = subst (Recovers left) (sym (short_is_empty seen files (Recovered first) are short.1 recovers)) (short_recovers left short.0);
+    answered = λ j lt begun. absurd (let same = opening.stamp in omega (arith, begun, same));
+  })
+]
+
+damaged_left : (seen : ℕ → Option (List ℕ)) (image : ℕ → List ℕ → Type 0) (given : ℕ) (files : Files) (file offset : ℕ) → AreSeen seen files
+    → Recovers files (Damaged file offset) → (left : Files) (s : ℕ) → Opening seen image given left s → AreImages image left
+damaged_left seen image given files file offset are recovers left s opening = elim opening.left [
+  | inl images ↦ images
+  | inr short ↦ absurd (apart (short_is_empty seen files (Damaged file offset) are short.1 recovers))
+]
+  where
+    apart : Damaged file offset ≡ Recovered empty → ⊥
+    apart e = cc
+
+-- ---- an open store that answers the script
+
+-- the same run with the opening before it
+ran_opened : (first : State) (status : ℕ) (seen : ℕ → Option (List ℕ)) (image image' : ℕ → List ℕ → Type 0) (files : Files) (input rest given : List ℕ)
+    (stamp m0 m1 m2 : ℕ) (past mid since : ℕ → Files → ℕ → Type 0) → AreSeen seen files → Recovers files (Recovered first)
+    → LeavesOnly m0 m1 past mid (Opening seen image stamp)
+    → Ran first status Never (record { stamp = stamp; from = m1; to = m2; past = mid; since = since }) image' input rest given
+    → Ran first status (AtEntry image stamp) (record { stamp = stamp; from = m0; to = m2; past = past; since = since }) image' input rest given
+ran_opened first status seen image image' files input rest given stamp m0 m1 m2 past mid since are recovers opening ran = record {
+  forms = ran.forms;
+  ending = ran.ending;
+  script = ran.script;
+  front = ran.front;
+  how = ran.how;
+  done = ran.done;
+  syntax = ran.syntax;
+  too_long = ran.too_long;
+  read_fault = ran.read_fault;
+  crash = both (weakened opening (opening_keeps seen image stamp files first ran.forms are recovers)) ran.crash (λ left s is. elim is [
+    | inl never ↦ absurd never
+    | inr keeps ↦ inr keeps
+  ]);
+  last = ran.last;
+}
+
+ends_opened : (first : State) (status : ℕ) (seen : ℕ → Option (List ℕ)) (image image' : ℕ → List ℕ → Type 0) (files : Files)
+    (left0 left1 left2 sink0 sink1 sink2 : Option (List ℕ)) (stamp m0 m1 m2 : ℕ) (past mid since : ℕ → Files → ℕ → Type 0) → AreSeen seen files
+    → Recovers files (Recovered first) → LeavesOnly m0 m1 past mid (Opening seen image stamp) → Kept left0 left1 → Kept sink0 sink1
+    → Ends first status Never (record { stamp = stamp; from = m1; to = m2; past = mid; since = since }) image' left1 left2 sink1 sink2
+    → Ends first status (AtEntry image stamp) (record { stamp = stamp; from = m0; to = m2; past = past; since = since }) image' left0 left2 sink0 sink2
+ends_opened first status seen image image' files left0 left1 left2 sink0 sink1 sink2 stamp m0 m1 m2 past mid since are recovers opening input sink ran =
+    told_both left0 left1 left2 input ran (λ a b c same more. told_both sink0 sink1 sink2 sink more (λ x y z same' given. (
+      given.0,
+      given.1 ∙ ap (λ (t : List ℕ). t ++ given.0) same',
+      subst (λ (i : List ℕ). Ran first status (AtEntry image stamp) (record { stamp = stamp; from = m0; to = m2; past = past; since = since }) image' i c given.0) same
+          (ran_opened first status seen image image' files b c given.0 stamp m0 m1 m2 past mid since are recovers opening given.2),
+    )))
+
+-- a run over files that recover to a state
+pub runs_opened : (first : State) (status : ℕ) (seen seen' seen2 : ℕ → Option (List ℕ)) (image image' : ℕ → List ℕ → Type 0)
+    (left0 left1 left2 sink0 sink1 sink2 : Option (List ℕ)) (e0 e1 m0 m1 m2 : ℕ) (past mid since : ℕ → Files → ℕ → Type 0)
+    → FilesTold seen seen' (λ files. Recovers files (Recovered first)) → (TellsFiles seen2 → TellsFiles seen') → e1 ≡ e0
+    → LeavesOnly m0 m1 past mid (Opening seen image e0) → Kept left0 left1 → Kept sink0 sink1
+    → Ends first status Never (record { stamp = e1; from = m1; to = m2; past = mid; since = since }) image' left1 left2 sink1 sink2
+    → FilesTold seen seen2 (λ files. (found : Recovery) → Recovers files found
+    → Runs found status (record { stamp = e0; from = m0; to = m2; past = past; since = since }) image image' seen seen2 left0 left2 sink0 sink2)
+runs_opened first status seen seen' seen2 image image' left0 left1 left2 sink0 sink1 sink2 e0 e1 m0 m1 m2 past mid since recovered told same opening input sink ran = record {
+  told = λ tells.
+      let at_entry = recovered.told (told tells) in (
+        at_entry.0,
+        at_entry.1,
+        λ found recovers. subst (λ (r : Recovery). Runs r status (record { stamp = e0; from = m0; to = m2; past = past; since = since }) image image' seen seen2 left0 left2 sink0 sink2)
+            (recovery_one at_entry.0 (Recovered first) found at_entry.2 recovers)
+            (ends_opened first status seen image image' at_entry.0 left0 left1 left2 sink0 sink1 sink2 e0 m0 m1 m2 past mid since at_entry.1 at_entry.2 opening input sink
+            (subst (λ (e : ℕ). Ends first status Never (record { stamp = e; from = m1; to = m2; past = mid; since = since }) image' left1 left2 sink1 sink2) same ran)),
+      );
+}
+
+-- ---- damage
+
+kept_unless : {P : List ℕ → Type 0} (old new : Option (List ℕ)) → Told old new (λ was now. (now ≡ was) ⊎ P was) → ((was : List ℕ) → old ≡ Some was → P was → ⊥) → Kept old new
+kept_unless (Some was) (Some now) told other = elim told [ inl same ↦ same | inr p ↦ absurd (other was refl p) ]
+kept_unless None (Some now) told other = absurd told
+kept_unless (Some was) None told other = tt
+kept_unless None None told other = tt
+
+-- a read gives what it gave, where the files are damaged
+damaged_reads : (seen seen' : ℕ → Option (List ℕ)) (files : Files) (file offset : ℕ) → AreSeen seen files → Recovers files (Damaged file offset) → ReadsAsBefore seen seen'
+    → (this : ℕ) → this < 4 → Kept (seen this) (seen' this)
+damaged_reads seen seen' files file offset are recovers reads this lt =
+    kept_unless (seen this) (seen' this) (reads this lt) (λ was same short.
+    let own : IsShort files.l0 = subst IsShort (some_same was files.l0 (sym same ∙ ap seen short.0 ∙ are 1 (omega arith))) short.1 in
+    apart (recovery_one files (Damaged file offset) (Recovered empty) recovers (short_recovers files own)))
+  where
+    some_same : (a b : List ℕ) → Some a ≡ Some b → a ≡ b
+    some_same a b e = cc
+
+    apart : Damaged file offset ≡ Recovered empty → ⊥
+    apart e = cc
+
+-- the report of damaged files, from its parts
+pub runs_damaged : (file offset status : ℕ) (seen seen' seen2 : ℕ → Option (List ℕ)) (image image1 image' : ℕ → List ℕ → Type 0)
+    (left0 left1 left2 sink0 sink1 sink2 : Option (List ℕ)) (e0 e1 e2 m0 m1 m2 : ℕ) (past mid since : ℕ → Files → ℕ → Type 0)
+    → FilesTold seen seen' (λ files. Recovers files (Damaged file offset)) → ReadsAsBefore seen seen' → FilesStay seen' seen2 image1 image'
+    → LeavesOnly m0 m1 past mid (Opening seen image e0) → LeavesOnly m1 m2 mid since (Untouched image1 e1 e2)
+    → ((files : Files) → AreImages image1 files → mid m0 files e1) → Kept left0 left1 → Kept left1 left2 → Kept sink0 sink1
+    → Extends sink1 sink2 (λ given. IsFrontOf given (damage_line file offset) × (status ≡ 1 → given ≡ damage_line file offset)) → (status ≡ 1) ⊎ IsCutOff status
+    → FilesTold seen seen2 (λ files. (found : Recovery) → Recovers files found
+    → Runs found status (record { stamp = e0; from = m0; to = m2; past = past; since = since }) image image' seen seen2 left0 left2 sink0 sink2)
+runs_damaged file offset status seen seen' seen2 image image1 image' left0 left1 left2 sink0 sink1 sink2 e0 e1 e2 m0 m1 m2 past mid since
+    damaged reads stay opening reporting now input input' sink line how = record {
+      told = λ tells.
+          let at_entry = damaged.told (λ this lt. told_back _ (seen' this) (seen2 this) (stay this lt).read (tells this lt)) in
+          let were = damaged_left seen image e0 at_entry.0 file offset at_entry.1 at_entry.2 in (
+            at_entry.0,
+            at_entry.1,
+            λ found recovers. subst (λ (r : Recovery). Runs r status (record { stamp = e0; from = m0; to = m2; past = past; since = since }) image image' seen seen2 left0 left2 sink0 sink2)
+                (recovery_one at_entry.0 (Damaged file offset) found at_entry.2 recovers)
+                (record {
+                  line = told_both sink0 sink1 sink2 sink line (λ x y z same given. (given.0, given.1 ∙ ap (λ (t : List ℕ). t ++ given.0) same, given.2));
+                  input = kept_both left0 left1 left2 input input';
+                  reads = λ this lt. kept_both (seen this) (seen' this) (seen2 this)
+                      (damaged_reads seen seen' at_entry.0 file offset at_entry.1 at_entry.2 reads this lt) (stay this lt).read;
+                  crash = both (weakened opening were) reporting (λ left s untouched. were left e1 (opening.each left e1 (now left untouched.images)));
+                  how = how;
+                }),
+          );
+    }
+
+-- the damage that was reported is that of the files at entry
+pub finds_damage : (file offset : ℕ) (seen seen' seen2 : ℕ → Option (List ℕ)) (image1 image' : ℕ → List ℕ → Type 0)
+    → FilesTold seen seen' (λ files. Recovers files (Damaged file offset)) → FilesStay seen' seen2 image1 image' → FilesTold seen seen2 FindsDamage
+finds_damage file offset seen seen' seen2 image1 image' damaged stay = record {
+  told = λ tells.
+      let at_entry = damaged.told (λ this lt. told_back _ (seen' this) (seen2 this) (stay this lt).read (tells this lt)) in
+      (at_entry.0, at_entry.1, (file, offset, at_entry.2));
+}
+
+-- ---- the store wasn't opened
+
+-- a run that gave nothing
+ran_nothing : (first : State) (status : ℕ) (seen : ℕ → Option (List ℕ)) (image image' : ℕ → List ℕ → Type 0) (files : Files) (input : List ℕ)
+    (stamp m0 m1 : ℕ) (past since : ℕ → Files → ℕ → Type 0) → AreSeen seen files → Recovers files (Recovered first)
+    → LeavesOnly m0 m1 past since (Opening seen image stamp) → (status ≡ 5) ⊎ (status ≡ 6)
+    → Ran first status (AtEntry image stamp) (record { stamp = stamp; from = m0; to = m1; past = past; since = since }) image' input input []
+ran_nothing first status seen image image' files input stamp m0 m1 past since are recovers opening why =
+    let script = script_exists _ _ in
+    record {
+      forms = script.0;
+      ending = script.1;
+      script = script.2;
+      front = (text_of script.0 first, refl);
+      how = inr (inr (inr why));
+      done = λ e. absurd (elim why [ inl f ↦ omega arith | inr f ↦ omega arith ]);
+      syntax = λ e. absurd (elim why [ inl f ↦ omega arith | inr f ↦ omega arith ]);
+      too_long = λ e. absurd (elim why [ inl f ↦ omega arith | inr f ↦ omega arith ]);
+      read_fault = λ e. absurd (elim why [ inl f ↦ omega arith | inr f ↦ omega arith ]);
+      crash = weakened opening (opening_keeps seen image stamp files first script.0 are recovers);
+      last = λ e. absurd (elim why [ inl f ↦ omega arith | inr f ↦ omega arith ]);
+    }
+
+runs_nothing : (found : Recovery) (status : ℕ) (seen seen' : ℕ → Option (List ℕ)) (image image' : ℕ → List ℕ → Type 0) (files : Files)
+    (left0 left1 sink0 sink1 : Option (List ℕ)) (stamp m0 m1 : ℕ) (past since : ℕ → Files → ℕ → Type 0) → AreSeen seen files → Recovers files found
+    → ReadsAsBefore seen seen' → LeavesOnly m0 m1 past since (Opening seen image stamp) → Kept left0 left1 → Kept sink0 sink1 → (status ≡ 5) ⊎ (status ≡ 6)
+    → Runs found status (record { stamp = stamp; from = m0; to = m1; past = past; since = since }) image image' seen seen' left0 left1 sink0 sink1
+runs_nothing (Recovered first) status seen seen' image image' files left0 left1 sink0 sink1 stamp m0 m1 past since are recovers reads opening input sink why =
+    told_map left0 left1 input (λ a b same. told_map sink0 sink1 sink (λ x y same'. (
+      [],
+      same' ∙ sym (append-nil x),
+      subst (λ (r : List ℕ). Ran first status (AtEntry image stamp) (record { stamp = stamp; from = m0; to = m1; past = past; since = since }) image' a r []) (sym same)
+          (ran_nothing first status seen image image' files a stamp m0 m1 past since are recovers opening why),
+    )))
+runs_nothing (Damaged file offset) status seen seen' image image' files left0 left1 sink0 sink1 stamp m0 m1 past since are recovers reads opening input sink why = record {
+  line = told_map sink0 sink1 sink (λ x y same'. (
+    [],
+    same' ∙ sym (append-nil x),
+    ((damage_line file offset, refl), λ e. absurd (elim why [ inl f ↦ omega arith | inr f ↦ omega arith ])),
+  ));
+  input = input;
+  reads = damaged_reads seen seen' files file offset are recovers reads;
+  crash = weakened opening (damaged_left seen image stamp files file offset are recovers);
+  how = inr (inr (inr why));
+}
+
+-- the disk failed while the store was opened, or memory ran out
+pub runs_unopened : (status : ℕ) (seen seen' : ℕ → Option (List ℕ)) (image image' : ℕ → List ℕ → Type 0)
+    (left0 left1 sink0 sink1 : Option (List ℕ)) (stamp m0 m1 : ℕ) (past since : ℕ → Files → ℕ → Type 0)
+    → ReadsAsBefore seen seen' → LeavesOnly m0 m1 past since (Opening seen image stamp) → Kept left0 left1 → Kept sink0 sink1 → (status ≡ 5) ⊎ (status ≡ 6)
+    → FilesTold seen seen' (λ files. (found : Recovery) → Recovers files found
+    → Runs found status (record { stamp = stamp; from = m0; to = m1; past = past; since = since }) image image' seen seen' left0 left1 sink0 sink1)
+runs_unopened status seen seen' image image' left0 left1 sink0 sink1 stamp m0 m1 past since reads opening input sink why = record {
+  told = λ tells.
+      let files = files_there seen (reads_tell seen seen' reads tells) in
+      (files.0, files.1, λ found recovers. runs_nothing found status seen seen' image image' files.0 left0 left1 sink0 sink1 stamp m0 m1 past since files.1 recovers reads opening input sink why);
+}
+
+reads_same : (seen : ℕ → Option (List ℕ)) → ReadsAsBefore seen seen
+reads_same seen file lt = told_same _ (seen file) (λ bytes. inl refl)
+
+-- memory ran out before anything was done
+pub runs_untouched : (seen : ℕ → Option (List ℕ)) (image : ℕ → List ℕ → Type 0) (left sink : Option (List ℕ)) (stamp moment : ℕ) (since : ℕ → Files → ℕ → Type 0)
+    → ((files : Files) (s : ℕ) → since moment files s → AreImages image files × (s ≡ stamp))
+    → FilesTold seen seen (λ files. (found : Recovery) → Recovers files found
+    → Runs found 6 (record { stamp = stamp; from = moment; to = moment; past = since; since = since }) image image seen seen left left sink sink)
+runs_untouched seen image left sink stamp moment since now =
+    runs_unopened 6 seen seen image image left left sink sink stamp moment moment since since (reads_same seen)
+    (started moment since (λ files s there. let is = now files s there in record { stamp = is.1; left = inl is.0 }))
+    (told_same _ left (λ bytes. refl)) (told_same _ sink (λ bytes. refl)) (inr refl)

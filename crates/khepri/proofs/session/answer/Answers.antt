@@ -1,0 +1,41 @@
+use Rattle.std.proofs.Common.{◌∙◌, ap}
+use Rattle.kh_text_defs.specs.Shown.{shown_line}
+use Rattle.khepri.proofs.Answering.{none_given, front_given, answered}
+use Rattle.khepri.proofs.Stands.{tells_stay}
+use Rattle.khepri.proofs.session.answer.Goals as goal
+
+pub returns-in-Err-DiskFault-clause-front : goal.returns-in-Err-DiskFault-clause-front
+returns-in-Err-DiskFault-clause-front g c =
+    let host = g.H.Disk in none_given (host.given c.args.host.now) (host.given c.execute.new.host) _ c.execute.ensures.sink
+
+pub returns-in-Err-NoMemory-clause-front : goal.returns-in-Err-NoMemory-clause-front
+returns-in-Err-NoMemory-clause-front g c =
+    let host = g.H.Disk in none_given (host.given c.args.host.now) (host.given c.execute.new.host) _ c.execute.ensures.sink
+
+pub returns-in_default-clause-front : goal.returns-in_default-clause-front
+returns-in_default-clause-front g c =
+    let host = g.H.Disk in none_given (host.given c.args.host.now) (host.given c.execute.new.host) _ c.execute.ensures.sink
+
+pub returns-in-Ok-give_all-clause-any_moment : goal.returns-in-Ok-give_all-clause-any_moment
+returns-in-Ok-give_all-clause-any_moment g c =
+    let host = g.H.Disk in
+    answered c.args.form _ c.execute.new.self (host.seen c.execute.new.host) _ _ _ c.execute.ensures.stamp c.give_all.ensures.stamp
+    c.in-Ok.ensures.stands c.in-Ok.ensures.after c.execute.ensures.any_moment c.give_all.ensures.any_moment
+
+pub returns-in-Ok-give_all-clause-told : goal.returns-in-Ok-give_all-clause-told
+returns-in-Ok-give_all-clause-told g c tells = c.execute.ensures.told (tells_stay c.give_all.ensures.files tells)
+
+pub returns-clause-front : goal.returns-clause-front
+returns-clause-front g c =
+    let host = g.H.Disk in
+    front_given (host.given c.args.host.now) (host.given c.execute.new.host) (host.given c.give_all.new.host) _ _
+    (c.as_slice.ensures.value ∙ c.in-Ok-print_line.ensures.line ∙ ap shown_line c.in-Ok.ensures.reply) c.execute.ensures.sink c.in-Err.ensures.front
+
+pub returns-clause-any_moment : goal.returns-clause-any_moment
+returns-clause-any_moment g c =
+    let host = g.H.Disk in
+    answered c.args.form _ c.execute.new.self (host.seen c.execute.new.host) _ _ _ c.execute.ensures.stamp c.give_all.ensures.stamp
+    c.in-Ok.ensures.stands c.in-Ok.ensures.after c.execute.ensures.any_moment c.give_all.ensures.any_moment
+
+pub returns-clause-told : goal.returns-clause-told
+returns-clause-told g c tells = c.execute.ensures.told (tells_stay c.give_all.ensures.files tells)

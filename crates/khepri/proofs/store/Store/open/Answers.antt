@@ -1,0 +1,119 @@
+use Rattle.std.proofs.Common.{◌≡◌, ◌<◌, Err, Some, inl, sym, ap, arith, ◌∙◌}
+use Rattle.kh_io.specs.Disk.{TellsFiles}
+use Rattle.kh_io.proofs.Moments.{both, weakened, images_stay}
+use Rattle.kh_log.specs.Records.{records_of, lacking_in}
+use Rattle.kh_log.proofs.Walk.{stays_both}
+use Rattle.khepri.specs.State.{empty}
+use Rattle.khepri.specs.Recovery.{Recovered, Damaged, Replays, ReplaysUnless}
+use Rattle.khepri.specs.Store.{Opening}
+use Rattle.khepri.proofs.Safe.{still_safe}
+use Rattle.khepri.proofs.Open.{begins, begun_left, told_back, files_told, content_before, lacking_before, replays_before, lacks_at, lacks_recovers, closed_there, there_still}
+use Rattle.khepri.proofs.store.Store.open.Goals as goal
+
+-- while a log is begun
+pub returns-in_err-begin_log-clause-any_moment : goal.returns-in_err-begin_log-clause-any_moment
+returns-in_err-begin_log-clause-any_moment g c =
+    let host = g.H.Disk in
+    let s = c.sync_all.ensures in
+    let synced = weakened {Q = Opening (host.seen c.args.host.now) (host.image c.args.host.now) (host.stamp c.args.host.now)} s.any_moment
+    (λ files at left. record { stamp = left.stamp; left = inl left.images }) in
+    both synced c.begin_log.ensures.any_moment (begins _ _ _ _ _ _ (s.reads 1 (omega arith)) s.no_new_images s.stamp)
+
+pub returns-in_err-log-clause-any_moment : goal.returns-in_err-log-clause-any_moment
+returns-in_err-log-clause-any_moment g c =
+    let host = g.H.Disk in
+    let s = c.sync_all.ensures in
+    let b = c.begin_log.ensures in
+    let synced = weakened {Q = Opening (host.seen c.args.host.now) (host.image c.args.host.now) (host.stamp c.args.host.now)} s.any_moment
+    (λ files at left. record { stamp = left.stamp; left = inl left.images }) in
+    let begun = both synced b.any_moment (begins _ _ _ _ _ _ (s.reads 1 (omega arith)) s.no_new_images s.stamp) in
+    both begun c.open.ensures.any_moment (λ files at left.
+    begun_left _ _ _ _ (host.image c.begin_log.new.host) _ _ (s.reads 1 (omega arith)) s.no_new_images s.stamp b.images (λ file lt other. (b.others file lt other).only)
+    files at left.images (left.stamp ∙ b.stamp))
+
+pub returns-in_err-tree-clause-any_moment : goal.returns-in_err-tree-clause-any_moment
+returns-in_err-tree-clause-any_moment g c =
+    let host = g.H.Disk in
+    let s = c.sync_all.ensures in
+    let b = c.begin_log.ensures in
+    let synced = weakened {Q = Opening (host.seen c.args.host.now) (host.image c.args.host.now) (host.stamp c.args.host.now)} s.any_moment
+    (λ files at left. record { stamp = left.stamp; left = inl left.images }) in
+    let begun = both synced b.any_moment (begins _ _ _ _ _ _ (s.reads 1 (omega arith)) s.no_new_images s.stamp) in
+    let opened = both begun c.open.ensures.any_moment (λ files at left.
+    begun_left _ _ _ _ (host.image c.begin_log.new.host) _ _ (s.reads 1 (omega arith)) s.no_new_images s.stamp b.images (λ file lt other. (b.others file lt other).only)
+    files at left.images (left.stamp ∙ b.stamp)) in
+    both opened c.replay.ensures.any_moment (λ files at left.
+    begun_left _ _ _ _ (host.image c.begin_log.new.host) _ _ (s.reads 1 (omega arith)) s.no_new_images s.stamp b.images (λ file lt other. (b.others file lt other).only)
+    files at (images_stay c.open.ensures.files files left.images) (left.stamp ∙ c.open.ensures.stamp ∙ b.stamp))
+
+pub returns-clause-any_moment : goal.returns-clause-any_moment
+returns-clause-any_moment g c =
+    let host = g.H.Disk in
+    let s = c.sync_all.ensures in
+    let b = c.begin_log.ensures in
+    let synced = weakened {Q = Opening (host.seen c.args.host.now) (host.image c.args.host.now) (host.stamp c.args.host.now)} s.any_moment
+    (λ files at left. record { stamp = left.stamp; left = inl left.images }) in
+    let begun = both synced b.any_moment (begins _ _ _ _ _ _ (s.reads 1 (omega arith)) s.no_new_images s.stamp) in
+    let opened = both begun c.open.ensures.any_moment (λ files at left.
+    begun_left _ _ _ _ (host.image c.begin_log.new.host) _ _ (s.reads 1 (omega arith)) s.no_new_images s.stamp b.images (λ file lt other. (b.others file lt other).only)
+    files at left.images (left.stamp ∙ b.stamp)) in
+    both opened c.replay.ensures.any_moment (λ files at left.
+    begun_left _ _ _ _ (host.image c.begin_log.new.host) _ _ (s.reads 1 (omega arith)) s.no_new_images s.stamp b.images (λ file lt other. (b.others file lt other).only)
+    files at (images_stay c.open.ensures.files files left.images) (left.stamp ∙ c.open.ensures.stamp ∙ b.stamp))
+
+pub returns-in_err-log-clause-damaged : goal.returns-in_err-log-clause-damaged
+returns-in_err-log-clause-damaged g c = λ file offset is.
+    let host = g.H.Disk in
+    let seen = host.seen c.args.host.now in
+    let from = rw is at c.from_residual-in_err-log.ensures in
+    let why = lacks_at c.in_err-log.field-0.0 file offset (sym from.1) in
+    let lacks = c.in_err-log.ensures.lacking offset (ap Err why.0) in
+    let back : TellsFiles (host.seen c.open.new.host) → TellsFiles seen = λ tells file lt.
+    told_back _ (seen file) _ (c.sync_all.ensures.reads file lt) (told_back _ _ _ (c.begin_log.ensures.reads file lt)
+    (told_back _ _ _ (c.open.ensures.files file lt).read (tells file lt))) in
+    let before = content_before (seen 1) _ _ (c.sync_all.ensures.reads 1 (omega arith)) c.in_ok-begin_log.ensures.begun in
+    files_told seen _ (λ was. lacking_in was ≡ Some offset) _ back (lacking_before _ _ _ offset before lacks) (λ files at.
+    lacks_recovers files file offset at why.1)
+
+pub returns-in_err-tree-clause-damaged : goal.returns-in_err-tree-clause-damaged
+returns-in_err-tree-clause-damaged g c = λ file offset is.
+    let host = g.H.Disk in
+    let seen = host.seen c.args.host.now in
+    let from = rw is at c.from_residual-in_err-tree.ensures in
+    let damaged = c.in_err-tree.ensures.damaged file offset (ap Err (sym from.1)) in
+    let back : TellsFiles (host.seen c.replay.new.host) → TellsFiles seen = λ tells file lt.
+    told_back _ (seen file) _ (c.sync_all.ensures.reads file lt) (told_back _ _ _ (c.begin_log.ensures.reads file lt)
+    (told_back _ _ _ (c.open.ensures.files file lt).read (told_back _ _ _ (c.replay.ensures.files file lt).read (tells file lt)))) in
+    let before = content_before (seen 1) _ _ (c.sync_all.ensures.reads 1 (omega arith)) c.in_ok-begin_log.ensures.begun in
+    let kept = (c.open.ensures.files 1 (omega arith)).read in
+    files_told seen _ (λ was. ReplaysUnless (lacking_in was) (records_of was) (Damaged file offset)) _ back
+    (replays_before _ _ _ _ c.in_ok-log.log (Damaged file offset) before kept c.in_ok-log.ensures.found damaged) (λ files replays. replays)
+
+pub returns-clause-recovered : goal.returns-clause-recovered
+returns-clause-recovered g c =
+    let host = g.H.Disk in
+    let seen = host.seen c.args.host.now in
+    let end = Recovered (record { nodes = c.in_ok-tree.tree; span = c.replay.new.log.last }) in
+    let back : TellsFiles (host.seen c.replay.new.host) → TellsFiles seen = λ tells file lt.
+    told_back _ (seen file) _ (c.sync_all.ensures.reads file lt) (told_back _ _ _ (c.begin_log.ensures.reads file lt)
+    (told_back _ _ _ (c.open.ensures.files file lt).read (told_back _ _ _ (c.replay.ensures.files file lt).read (tells file lt)))) in
+    let before = content_before (seen 1) _ _ (c.sync_all.ensures.reads 1 (omega arith)) c.in_ok-begin_log.ensures.begun in
+    let kept = (c.open.ensures.files 1 (omega arith)).read in
+    files_told seen _ (λ was. ReplaysUnless (lacking_in was) (records_of was) end) _ back
+    (replays_before _ _ _ _ c.in_ok-log.log end before kept c.in_ok-log.ensures.found c.in_ok-tree.ensures.recovered) (λ files replays. replays)
+
+pub returns-clause-stands : goal.returns-clause-stands
+returns-clause-stands g c =
+    let host = g.H.Disk in
+    let one : 1 < 4 = omega arith in
+    let opened = c.open.ensures.files 1 one in
+    let replayed = c.replay.ensures.files 1 one in
+    record {
+      safe = still_safe (c.in_ok-begin_log.ensures.safe) (stays_both opened replayed)
+          (λ bytes. g.met.H.Disk.untold_is_not_left c.replay.new.host 1 bytes one);
+      found = c.replay.ensures.holds;
+      closed = closed_there _ _ _ _ c.in_ok-log.log c.replay.new.log.last c.in_ok-begin_log.ensures.begun opened.read c.in_ok-log.ensures.found
+          c.in_ok-log.ensures.closed replayed.read c.replay.ensures.last;
+      recovers = there_still (λ bytes. Replays empty (records_of bytes) (Recovered (record { nodes = c.in_ok-tree.tree; span = c.replay.new.log.last }))) _ _
+          replayed.read c.in_ok-tree.ensures.recovered;
+    }

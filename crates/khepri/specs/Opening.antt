@@ -1,0 +1,49 @@
+-- How a store is opened: its log is begun where there is none, and the records are applied.
+use Rattle.std.specs.Prelude.{◌≡◌, ◌⊎◌, ℕ, ◌≤◌, List, [], length, Option, Some, None, IsSome, ℤ, IsTrue}
+use Rattle.kh_term.specs.declared.name.Name.{Name}
+use Rattle.kh_io.specs.declared.files.Files.{Files}
+use Rattle.kh_io.specs.Disk.{AreImages}
+use Rattle.kh_log.specs.Records.{log_of}
+use Rattle.kh_read.specs.declared.form.Form.TheVariants as form
+use Rattle.kh_log.specs.declared.error.LogError.{LogError}
+use Rattle.kh_log.specs.declared.error.LogError.TheVariants as log_error
+use Rattle.khepri.specs.declared.store.OpenError.{OpenError}
+use Rattle.khepri.specs.declared.store.OpenError.TheVariants as open_error
+use Rattle.khepri.specs.Command.{IsPut}
+use Rattle.khepri.specs.State.{State, store_logs, store_after}
+use Rattle.khepri.specs.Store.{IsShort}
+
+-- file 1 before a log is begun in it, and after: it stays where it held one, and else holds one without records
+abbrev pub Begun : List ℕ → List ℕ → Type 0
+Begun was now = ((2 ≤ length was) × (now ≡ was)) ⊎ (IsShort was × (now ≡ log_of []))
+
+-- the file was told, and held no log
+abbrev pub WasShort : Option (List ℕ) → Type 0
+WasShort (Some bytes) = IsShort bytes
+WasShort None = ⊥
+
+-- What a crash may leave while the empty log is written: none in file 1, which was told at entry, and the stamp as it was.
+pub record LeftShort (seen : Option (List ℕ)) (given : ℕ) (files : Files) (s : ℕ) : Type 0 where
+  pub told : IsSome seen
+  pub stamp : s ≡ given
+  pub short : IsShort files.l0
+
+-- What a crash may leave while a log is begun: what a crash at entry might have left, or no log in file 1 where it held none.
+-- The stamp is as it was.
+pub record Beginning (seen : Option (List ℕ)) (image : ℕ → List ℕ → Type 0) (given : ℕ) (files : Files) (s : ℕ) : Type 0 where
+  pub stamp : s ≡ given
+  pub left : AreImages image files ⊎ (IsShort files.l0 × WasShort seen)
+
+-- These bytes are a record that the store in a state would have logged, and this is the state after it.
+pub record IsRecord (bytes : List ℕ) (old new : State) : Type 0 where
+  pub path : List Name
+  pub number : ℤ
+  pub put : IsPut bytes path number
+  pub logged : IsTrue (store_logs (form.Put path number) old)
+  pub after : new ≡ store_after (form.Put path number) old
+
+-- why no store was opened where the log of file 1 wasn't
+abbrev pub opening_error : LogError → OpenError
+opening_error log_error.DiskFault = open_error.DiskFault
+opening_error (log_error.NotALog offset) = open_error.Damaged 1 offset
+opening_error log_error.NoMemory = open_error.NoMemory

@@ -1,0 +1,52 @@
+-- A store that is open, and what a crash leaves while its calls run.
+use Rattle.std.specs.Prelude.{◌≡◌, ◌⊎◌, ℕ, ◌<◌, List, length, Option, Some, IfSome}
+use Rattle.kh_io.specs.declared.files.Files.{Files}
+use Rattle.kh_io.specs.Told.{Told}
+use Rattle.kh_io.specs.Disk.{file_of, AreImages, TellsFiles, IsSafe}
+use Rattle.kh_log.specs.Records.{records_of, IsClosedAt}
+use Rattle.kh_log.specs.Log.{Place, Holds}
+use Rattle.kh_read.specs.declared.form.Form.{Form}
+use Rattle.khepri.specs.Tree.{Node}
+use Rattle.khepri.specs.State.{State, empty, store_after}
+use Rattle.khepri.specs.Recovery.{Recovered, Replays, Recovers}
+
+-- a fact of what a read gives of the files at entry, where they are told at exit: then they were told at entry
+pub record FilesTold (seen seen' : ℕ → Option (List ℕ)) (P : Files → Type 0) : Type 0 where
+  pub told : TellsFiles seen' → (files : Files) × ((file : ℕ) → file < 4 → seen file ≡ Some (file_of files file)) × P files
+
+-- The tree of a store that is open, and its place in the log.
+pub record Opened : Type 0 where
+  pub nodes : List Node
+  pub place : Place
+
+-- its state
+abbrev pub state_of : Opened → State
+state_of store = record { nodes = store.nodes; span = store.place.last }
+
+-- The store stands in file 1, where that is told: a crash leaves of it what a read gives, which is the log that the store's
+-- calls found or left, with its last gate closed, and recovers to the store's state.
+pub record Stands (store : Opened) (seen : Option (List ℕ)) (image : List ℕ → Type 0) : Type 0 where
+  pub safe : IsSafe seen image
+  pub found : IfSome seen (Holds store.place)
+  pub closed : IfSome seen (IsClosedAt store.place.last)
+  pub recovers : IfSome seen (λ bytes. Replays empty (records_of bytes) (Recovered (state_of store)))
+
+-- a file that holds no log yet
+abbrev pub IsShort : List ℕ → Type 0
+IsShort bytes = length bytes < 2
+
+-- What a crash while a store is opened may leave: what a crash at entry might have left, or, where file 1 held no log, none there.
+-- The stamp is as it was.
+pub record Opening (seen : ℕ → Option (List ℕ)) (image : ℕ → List ℕ → Type 0) (given : ℕ) (files : Files) (s : ℕ) : Type 0 where
+  pub stamp : s ≡ given
+  pub left : AreImages image files ⊎ (IsShort files.l0 × IfSome (seen 1) IsShort)
+
+-- what a read gives after a store was opened: what it gave before, but for a file 1 that held no log
+abbrev pub ReadsAsBefore : (seen seen' : ℕ → Option (List ℕ)) → Type 0
+ReadsAsBefore seen seen' = (file : ℕ) → file < 4 → Told (seen file) (seen' file) (λ was now. (now ≡ was) ⊎ ((file ≡ 1) × IsShort was))
+
+-- What a crash while a command is executed may leave: files that recover to the state before it or to the state after it. The
+-- stamp is as it was.
+pub record Executing (form : Form) (old : State) (given : ℕ) (files : Files) (s : ℕ) : Type 0 where
+  pub stamp : s ≡ given
+  pub recovers : Recovers files (Recovered old) ⊎ Recovers files (Recovered (store_after form old))

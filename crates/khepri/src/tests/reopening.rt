@@ -1,0 +1,539 @@
+//! Stores that are opened again: over files of known bytes, over damaged ones, and over what a crash leaves.
+//! The bytes of the files were worked out by hand.
+use super::{ROOM, files_of, words};
+use crate::command::{pack_put, read_put};
+use crate::plain::plain_session;
+use crate::top::khepri;
+use kh_io::{FileBytes, Files, MemoryHost};
+use kh_term::{Atom, Name, Path};
+use std::alloc::Global;
+use std::process::Abort;
+use std::test::Fail;
+
+// The log of one put of 150 to the path `[stock]`, and the gate behind it.
+const STOCK: &[u8] =
+    b"\xa5\0\0\0\x20\x06\0\0\0\x04\x02\x03put\x05\0\0\0\x01\x02\x05stock\x04\x01\x02\0\x96\x07\0\0\0\0\0";
+
+const GET_STOCK: &[u8] = b"{get,[stock]}.\n";
+
+const FOUND: &[u8] = b"{ok,150}.\n";
+
+const NO_STOCK: &[u8] = b"{error,{khepri,node_not_found,#{node_path => [stock]}}}.\n";
+
+// What bytes that aren't yet safe may be found as.
+const FILLS: [Option<u8>; 4] = [None, Some(0), Some(0x5a), Some(0xa5)];
+
+// A host over these files, before its first call.
+fn host_over(
+    alloc: Global,
+    files: Files,
+    script: &[u8],
+    failing: &[u64],
+) -> Result<MemoryHost, Fail> {
+    let (script, failing) = (script.to_vec(alloc)?, failing.to_vec(alloc)?);
+    Ok(MemoryHost::new(alloc, script, files, failing, ROOM)?)
+}
+
+// The files that a crash after so many calls may leave.
+fn image(host: &MemoryHost, calls: u64, fill: Option<u8>) -> Result<Files, Fail> {
+    if calls > host.calls() {
+        return Err(Fail::from("fewer calls were made"));
+    }
+    Ok(host.image(calls, fill)?)
+}
+
+// The program over these files answers so.
+fn reopens(
+    rt: &impl Abort,
+    alloc: Global,
+    files: Files,
+    script: &[u8],
+    output: &[u8],
+    status: u8,
+) -> Result<(), Fail> {
+    let run = words(alloc, &["run"])?;
+    let mut host = host_over(alloc, files, script, &[])?;
+    assert_eq!(rt; khepri(alloc, run.as_slice(), &mut host), status);
+    assert_eq!(rt; host.output(), output);
+    Ok(())
+}
+
+// The program over a log answers so, and a read finds the log afterwards as it was.
+fn leaves(
+    rt: &impl Abort,
+    alloc: Global,
+    log: &[u8],
+    output: &[u8],
+    status: u8,
+) -> Result<(), Fail> {
+    let run = words(alloc, &["run"])?;
+    let mut host = host_over(alloc, files_of(alloc, log)?, GET_STOCK, &[])?;
+    assert_eq!(rt; khepri(alloc, run.as_slice(), &mut host), status);
+    assert_eq!(rt; host.output(), output);
+    let after = image(&host, host.calls(), None)?;
+    assert_eq!(rt; after.l0.as_slice(), log);
+    Ok(())
+}
+
+// A log of these records, each shorter than 256 bytes.
+fn log_of(alloc: Global, records: &[&[u8]]) -> Result<Vec<u8>, Fail> {
+    let mut log = Vec::new(alloc);
+    for record in records {
+        log.extend_from_slice(&[0xa5, 0, 0, 0, record.len().min(255) as u8])?;
+        log.extend_from_slice(record)?;
+    }
+    log.push(0)?;
+    Ok(log)
+}
+
+#[test]
+fn a_put_is_found_again(rt: HostRuntime) -> Result<(), Fail> {
+    let alloc = rt.alloc();
+    let run = words(alloc, &["run"])?;
+    let mut host = host_over(alloc, files_of(alloc, b"")?, b"{put,[stock],150}.\n", &[])?;
+    assert_eq!(rt; khepri(alloc, run.as_slice(), &mut host), 0);
+    assert_eq!(rt; host.output(), b"ok.\n".as_slice());
+    let after = image(&host, host.calls(), None)?;
+    assert_eq!(rt; after.l0.as_slice(), STOCK);
+    reopens(&rt, alloc, after, GET_STOCK, FOUND, 0)
+}
+
+#[test]
+fn a_log_is_cut_at_every_length(rt: HostRuntime) -> Result<(), Fail> {
+    let alloc = rt.alloc();
+    for len in 0..2 {
+        let files = files_of(alloc, &STOCK[..len])?;
+        reopens(&rt, alloc, files, GET_STOCK, NO_STOCK, 0)?;
+    }
+    for len in 2..38 {
+        leaves(&rt, alloc, &STOCK[..len], b"{damaged,1,1}.\n", 1)?;
+    }
+    leaves(&rt, alloc, STOCK, FOUND, 0)
+}
+
+// A put of 150 to the path `[stock]`.
+const PUT: &[u8] =
+    b"\x06\0\0\0\x04\x02\x03put\x05\0\0\0\x01\x02\x05stock\x04\x01\x02\0\x96\x07\0\0\0\0";
+
+// Records that are no command.
+static NO_COMMANDS: [&[u8]; 14] = [
+    b"",
+    // `get` for `put`
+    b"\x06\0\0\0\x04\x02\x03get\x05\0\0\0\x01\x02\x05stock\x04\x01\x02\0\x96\x07\0\0\0\0",
+    // a binary for the atom `put`
+    b"\x06\0\0\0\x04\x03\0\0\0\x03put\x05\0\0\0\x01\x02\x05stock\x04\x01\x02\0\x96\x07\0\0\0\0",
+    // a list for the tuple
+    b"\x05\0\0\0\x04\x02\x03put\x05\0\0\0\x01\x02\x05stock\x04\x01\x02\0\x96\x07\0\0\0\0\x04",
+    // no map
+    b"\x06\0\0\0\x03\x02\x03put\x05\0\0\0\x01\x02\x05stock\x04\x01\x02\0\x96",
+    // a map with a pair
+    b"\x06\0\0\0\x04\x02\x03put\x05\0\0\0\x01\x02\x05stock\x04\x01\x02\0\x96\x07\0\0\0\x01\x01\x01\x01\x01\x01\x01",
+    // an integer as the path
+    b"\x06\0\0\0\x04\x02\x03put\x01\x01\x07\x01\x02\0\x96\x07\0\0\0\0",
+    // a path without names
+    b"\x06\0\0\0\x04\x02\x03put\x04\x01\x02\0\x96\x07\0\0\0\0",
+    // a binary as a name
+    b"\x06\0\0\0\x04\x02\x03put\x05\0\0\0\x01\x03\0\0\0\x05stock\x04\x01\x02\0\x96\x07\0\0\0\0",
+    // a path with a tail
+    b"\x06\0\0\0\x04\x02\x03put\x05\0\0\0\x01\x02\x05stock\x01\x01\x07\x01\x02\0\x96\x07\0\0\0\0",
+    // an atom for the integer
+    b"\x06\0\0\0\x04\x02\x03put\x05\0\0\0\x01\x02\x05stock\x04\x02\x03abc\x07\0\0\0\0",
+    // an integer with a spare byte
+    b"\x06\0\0\0\x04\x02\x03put\x05\0\0\0\x01\x02\x05stock\x04\x01\x03\0\0\x96\x07\0\0\0\0",
+    // a byte more
+    b"\x06\0\0\0\x04\x02\x03put\x05\0\0\0\x01\x02\x05stock\x04\x01\x02\0\x96\x07\0\0\0\0\0",
+    // a byte fewer
+    b"\x06\0\0\0\x04\x02\x03put\x05\0\0\0\x01\x02\x05stock\x04\x01\x02\0\x96\x07\0\0\0",
+];
+
+#[test]
+fn a_record_that_is_no_command_is_damage(rt: HostRuntime) -> Result<(), Fail> {
+    let alloc = rt.alloc();
+    leaves(&rt, alloc, &log_of(alloc, &[PUT])?, FOUND, 0)?;
+    for record in &NO_COMMANDS {
+        leaves(
+            &rt,
+            alloc,
+            &log_of(alloc, &[record])?,
+            b"{damaged,1,1}.\n",
+            1,
+        )?;
+        // The second record stands behind the gate at 37, and its length at 38.
+        leaves(
+            &rt,
+            alloc,
+            &log_of(alloc, &[PUT, record])?,
+            b"{damaged,1,38}.\n",
+            1,
+        )?;
+    }
+    Ok(())
+}
+
+// A log, and how the program answers `{get,[stock]}.` over it.
+struct Row {
+    log: &'static [u8],
+    output: &'static [u8],
+    status: u8,
+}
+
+static LOGS: [Row; 10] = [
+    // The put of 150 with a length that is one too large.
+    Row {
+        log: b"\xa5\0\0\0\x21\x06\0\0\0\x04\x02\x03put\x05\0\0\0\x01\x02\x05stock\x04\x01\x02\0\x96\x07\0\0\0\0\0",
+        output: b"{damaged,1,1}.\n",
+        status: 1,
+    },
+    // A record that lacks a byte stands behind one that is no command.
+    Row {
+        log: b"\xa5\0\0\0\x01\x04\xa5\0\0\0\x02\x04",
+        output: b"{damaged,1,7}.\n",
+        status: 1,
+    },
+    // The same record whole: the first one is damaged.
+    Row {
+        log: b"\xa5\0\0\0\x01\x04\xa5\0\0\0\x02\x04\x04\0",
+        output: b"{damaged,1,1}.\n",
+        status: 1,
+    },
+    // An open gate with nothing behind it.
+    Row {
+        log: b"\xa5\0\0\0\x20\x06\0\0\0\x04\x02\x03put\x05\0\0\0\x01\x02\x05stock\x04\x01\x02\0\x96\x07\0\0\0\0\xa5",
+        output: b"{damaged,1,38}.\n",
+        status: 1,
+    },
+    // A gate that is closed hides the record behind it.
+    Row {
+        log: b"\0\0\0\0\x20\x06\0\0\0\x04\x02\x03put\x05\0\0\0\x01\x02\x05stock\x04\x01\x02\0\x96\x07\0\0\0\0\0",
+        output: NO_STOCK,
+        status: 0,
+    },
+    Row {
+        log: b"\x01\0\0\0\x20\x06\0\0\0\x04\x02\x03put\x05\0\0\0\x01\x02\x05stock\x04\x01\x02\0\x96\x07\0\0\0\0\0",
+        output: NO_STOCK,
+        status: 0,
+    },
+    Row {
+        log: b"\xa4\0\0\0\x20\x06\0\0\0\x04\x02\x03put\x05\0\0\0\x01\x02\x05stock\x04\x01\x02\0\x96\x07\0\0\0\0\0",
+        output: NO_STOCK,
+        status: 0,
+    },
+    Row {
+        log: b"\x5a\0\0\0\x20\x06\0\0\0\x04\x02\x03put\x05\0\0\0\x01\x02\x05stock\x04\x01\x02\0\x96\x07\0\0\0\0\0",
+        output: NO_STOCK,
+        status: 0,
+    },
+    Row {
+        log: b"\xff\0\0\0\x20",
+        output: NO_STOCK,
+        status: 0,
+    },
+    // What stands behind the closed gate of a record counts for nothing.
+    Row {
+        log: b"\xa5\0\0\0\x20\x06\0\0\0\x04\x02\x03put\x05\0\0\0\x01\x02\x05stock\x04\x01\x02\0\x96\x07\0\0\0\0\xff\xa5\0\0\0",
+        output: FOUND,
+        status: 0,
+    },
+];
+
+#[test]
+fn a_log_is_read_to_its_closed_gate(rt: HostRuntime) -> Result<(), Fail> {
+    let alloc = rt.alloc();
+    for row in &LOGS {
+        leaves(&rt, alloc, row.log, row.output, row.status)?;
+    }
+    Ok(())
+}
+
+const TWO_PUTS: &[u8] = b"{put,[a],1}.\n{put,[b],2}.\n";
+
+const GET_TWO: &[u8] = b"{get,[a]}.\n{get,[b]}.\n";
+
+// How they are answered after no put, after the first, and after both.
+const NO_PUT: &[u8] =
+    b"{error,{khepri,node_not_found,#{node_path => [a]}}}.\n{error,{khepri,node_not_found,#{node_path => [b]}}}.\n";
+
+const FIRST_PUT: &[u8] = b"{ok,1}.\n{error,{khepri,node_not_found,#{node_path => [b]}}}.\n";
+
+const BOTH_PUTS: &[u8] = b"{ok,1}.\n{ok,2}.\n";
+
+// How the images after these numbers of calls answer: where each byte is as written, where the gates that aren't yet safe are
+// closed, and where they are open.
+struct Crash {
+    from: u64,
+    until: u64,
+    written: &'static [u8],
+    closed: &'static [u8],
+    open: &'static [u8],
+}
+
+// Call 9 takes the script. Calls 10 to 13 write the first put, sync it, open its gate and sync that, and call 14 gives the reply;
+// calls 15 to 19 do so for the second.
+static CRASHES: [Crash; 5] = [
+    Crash {
+        from: 0,
+        until: 13,
+        written: NO_PUT,
+        closed: NO_PUT,
+        open: NO_PUT,
+    },
+    Crash {
+        from: 13,
+        until: 14,
+        written: FIRST_PUT,
+        closed: NO_PUT,
+        open: FIRST_PUT,
+    },
+    Crash {
+        from: 14,
+        until: 18,
+        written: FIRST_PUT,
+        closed: FIRST_PUT,
+        open: FIRST_PUT,
+    },
+    Crash {
+        from: 18,
+        until: 19,
+        written: BOTH_PUTS,
+        closed: FIRST_PUT,
+        open: BOTH_PUTS,
+    },
+    Crash {
+        from: 19,
+        until: 22,
+        written: BOTH_PUTS,
+        closed: BOTH_PUTS,
+        open: BOTH_PUTS,
+    },
+];
+
+// Each image after so many calls answers as the row says.
+fn images_answer(
+    rt: &impl Abort,
+    alloc: Global,
+    host: &MemoryHost,
+    calls: u64,
+    row: &Crash,
+) -> Result<(), Fail> {
+    let answers = [
+        (None, row.written),
+        (Some(0), row.closed),
+        (Some(0x5a), row.closed),
+        (Some(0xa5), row.open),
+    ];
+    for (fill, answer) in answers {
+        let files = image(host, calls, fill)?;
+        reopens(rt, alloc, files, GET_TWO, answer, 0)?;
+    }
+    Ok(())
+}
+
+#[test]
+fn a_crash_leaves_the_puts_before_its_gate(rt: HostRuntime) -> Result<(), Fail> {
+    let alloc = rt.alloc();
+    let run = words(alloc, &["run"])?;
+    let mut host = host_over(alloc, files_of(alloc, b"")?, TWO_PUTS, &[])?;
+    assert_eq!(rt; khepri(alloc, run.as_slice(), &mut host), 0);
+    assert_eq!(rt; host.calls(), 21);
+    for row in &CRASHES {
+        for calls in row.from..row.until.min(22) {
+            images_answer(&rt, alloc, &host, calls, row)?;
+        }
+    }
+    Ok(())
+}
+
+// A script as its forms, each with a reply of one line, and how many calls a run over empty files makes.
+struct Script {
+    forms: &'static [&'static [u8]],
+    calls: u64,
+}
+
+static SCRIPTS: [Script; 3] = [
+    Script {
+        forms: &[
+            b"{put,[a],1}.\n",
+            b"{get,[a]}.\n",
+            b"{put,[a,b],-7}.\n",
+            b"{get,[c]}.\n",
+            b"{put,[c],300}.\n",
+        ],
+        calls: 28,
+    },
+    // Puts over puts.
+    Script {
+        forms: &[
+            b"{get,[a]}.\n",
+            b"{put,[a],999999999999999999}.\n",
+            b"{put,[a],0}.\n",
+            b"{get,[a]}.\n",
+            b"{put,[a],-129}.\n",
+            b"{put,[a],0}.\n",
+            b"{get,[a]}.\n",
+        ],
+        calls: 34,
+    },
+    // Puts above and below others.
+    Script {
+        forms: &[
+            b"{put,[a,b,c],5}.\n",
+            b"{get,[a,b]}.\n",
+            b"{put,[a,b],128}.\n",
+            b"{put,[d],-1}.\n",
+            b"{put,[a],6}.\n",
+            b"{put,[a,b,c],-128}.\n",
+        ],
+        calls: 37,
+    },
+];
+
+const GET_ALL: &[u8] = b"{get,[a]}.\n{get,[a,b]}.\n{get,[a,b,c]}.\n{get,[c]}.\n{get,[d]}.\n";
+
+// The script of the first forms.
+fn script_of(alloc: Global, forms: &[&[u8]], count: usize) -> Result<Vec<u8>, Fail> {
+    let mut script = Vec::new(alloc);
+    for form in forms.iter().take(count) {
+        script.extend_from_slice(form)?;
+    }
+    Ok(script)
+}
+
+fn count_lines(text: &[u8]) -> usize {
+    let mut count: usize = 0;
+    for byte in text {
+        if *byte == b'\n' {
+            count = count.saturating_add(1);
+        }
+    }
+    count
+}
+
+// Whether a plain session of the first forms answers the gets of all paths so.
+fn is_state_after(
+    alloc: Global,
+    forms: &[&[u8]],
+    count: usize,
+    output: &[u8],
+) -> Result<bool, Fail> {
+    let mut script = script_of(alloc, forms, count)?;
+    let (mut text, _) = plain_session(alloc, &script)?;
+    text.extend_from_slice(output)?;
+    script.extend_from_slice(GET_ALL)?;
+    let (whole, _) = plain_session(alloc, &script)?;
+    Ok(text.as_slice() == whole.as_slice())
+}
+
+// The program over these files answers by the state after so many forms, or after one more, whose reply had not begun.
+fn recovers(
+    rt: &impl Abort,
+    alloc: Global,
+    files: Files,
+    forms: &[&[u8]],
+    begun: usize,
+) -> Result<(), Fail> {
+    let run = words(alloc, &["run"])?;
+    let mut host = host_over(alloc, files, GET_ALL, &[])?;
+    assert_eq!(rt; khepri(alloc, run.as_slice(), &mut host), 0);
+    let now = is_state_after(alloc, forms, begun, host.output())?;
+    let next = is_state_after(alloc, forms, begun.saturating_add(1), host.output())?;
+    assert!(rt; now || next);
+    Ok(())
+}
+
+// A run whose call of this number fails, if it has one: each image before that call recovers. Answers the status.
+fn crashes_at(rt: &impl Abort, alloc: Global, forms: &[&[u8]], call: u64) -> Result<u8, Fail> {
+    let run = words(alloc, &["run"])?;
+    let script = script_of(alloc, forms, forms.len())?;
+    let mut host = host_over(alloc, files_of(alloc, b"")?, &script, &[call])?;
+    let status = khepri(alloc, run.as_slice(), &mut host);
+    let begun = count_lines(host.output());
+    for fill in FILLS {
+        recovers(rt, alloc, image(&host, call, fill)?, forms, begun)?;
+    }
+    Ok(status)
+}
+
+#[test]
+fn a_crash_leaves_the_state_after_some_commands(rt: HostRuntime) -> Result<(), Fail> {
+    let alloc = rt.alloc();
+    for script in &SCRIPTS {
+        for call in 0..script.calls {
+            let status = crashes_at(&rt, alloc, script.forms, call)?;
+            assert!(rt; status >= 3 && status <= 5);
+        }
+        let status = crashes_at(&rt, alloc, script.forms, script.calls)?;
+        assert_eq!(rt; status, 0);
+    }
+    Ok(())
+}
+
+// The disk fails at this call, while the store is opened over a log. The files are then as they were, also after a crash.
+fn fails_in_opening(
+    rt: &impl Abort,
+    alloc: Global,
+    log: &[u8],
+    call: u64,
+    answer: &[u8],
+) -> Result<(), Fail> {
+    let run = words(alloc, &["run"])?;
+    let mut host = host_over(alloc, files_of(alloc, log)?, b"{put,[stock],1}.\n", &[call])?;
+    assert_eq!(rt; khepri(alloc, run.as_slice(), &mut host), 5);
+    assert_eq!(rt; host.output(), b"".as_slice());
+    for fill in FILLS {
+        let files = image(&host, host.calls(), fill)?;
+        reopens(rt, alloc, files, GET_STOCK, answer, 0)?;
+    }
+    Ok(())
+}
+
+#[test]
+fn a_fault_in_the_opening_loses_nothing(rt: HostRuntime) -> Result<(), Fail> {
+    let alloc = rt.alloc();
+    // The calls of the opening: over a file that is too short for a log 9, over a log of one record 10.
+    let rows: [(&[u8], u64, &[u8]); 3] = [
+        (b"", 9, NO_STOCK),
+        (b"\xa5", 9, NO_STOCK),
+        (STOCK, 10, FOUND),
+    ];
+    for (log, calls, answer) in rows {
+        for call in 0..calls {
+            fails_in_opening(&rt, alloc, log, call, answer)?;
+        }
+    }
+    Ok(())
+}
+
+// A put of -7 to the path `[a,b]`, and the same with a byte more.
+const PACKED: &[u8] =
+    b"\x06\0\0\0\x04\x02\x03put\x05\0\0\0\x02\x02\x01a\x02\x01b\x04\x01\x01\xf9\x07\0\0\0\0";
+
+const PACKED_AND_MORE: &[u8] =
+    b"\x06\0\0\0\x04\x02\x03put\x05\0\0\0\x02\x02\x01a\x02\x01b\x04\x01\x01\xf9\x07\0\0\0\0\0";
+
+// The path `[a,b]`.
+fn path_of_two(alloc: Global) -> Result<Path, Fail> {
+    let mut names = Vec::new(alloc);
+    for text in [b"a", b"b"] {
+        let atom = Atom::new(text.to_vec(alloc)?).ok_or("no atom")?;
+        names.push(Name::Atom(atom))?;
+    }
+    Ok(Path::new(names).ok_or("no path")?)
+}
+
+#[test]
+fn a_put_is_packed_and_read_back(rt: HostRuntime) -> Result<(), Fail> {
+    let alloc = rt.alloc();
+    let path = path_of_two(alloc)?;
+    let bytes = pack_put(alloc, &path, -7)?;
+    assert_eq!(rt; bytes.as_slice(), PACKED);
+    let (read, number) = read_put(alloc, PACKED)?.ok_or("no put")?;
+    assert!(rt; read == path);
+    assert_eq!(rt; number, -7);
+    for len in 0..30 {
+        let front = read_put(alloc, &PACKED[..len])?;
+        assert!(rt; front.is_none());
+    }
+    let more = read_put(alloc, PACKED_AND_MORE)?;
+    assert!(rt; more.is_none());
+    Ok(())
+}
