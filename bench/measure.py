@@ -1,9 +1,7 @@
 """Runs the program over scripts of its own making and prints times, ratios and peaks of memory."""
-import os
-import subprocess
 import sys
-import tempfile
-import time
+
+from runs import run_alone
 
 LIMIT = 67_108_864
 
@@ -33,34 +31,23 @@ def puts_of_length(length):
     return b"".join(lines)
 
 
-def run(program, script):
-    """The seconds, the peak of memory in bytes, the status and the length of the output of a run over a script."""
-    with tempfile.TemporaryFile() as source, tempfile.TemporaryFile() as sink:
-        source.write(script)
-        source.seek(0)
-        begin = time.monotonic()
-        child = subprocess.Popen([program, "run"], stdin=source, stdout=sink)
-        _, status, usage = os.wait4(child.pid, 0)
-        seconds = time.monotonic() - begin
-        return seconds, usage.ru_maxrss * 1024, os.waitstatus_to_exitcode(status), sink.seek(0, 2)
-
-
 def main(program):
-    half, _, status_half, _ = run(program, puts(100_000))
-    whole, _, status_whole, _ = run(program, puts(200_000))
-    print(f"puts under one parent: 100,000 in {half:.2f} s, 200,000 in {whole:.2f} s, "
-          f"ratio {whole / half:.2f}, status {status_half} and {status_whole}")
+    half = run_alone(program, puts(100_000))
+    whole = run_alone(program, puts(200_000))
+    print(f"puts under one parent: 100,000 in {half.seconds:.2f} s, 200,000 in {whole.seconds:.2f} s, "
+          f"ratio {whole.seconds / half.seconds:.2f}, status {half.status} and {whole.status}")
 
     script = puts_of_length(60_000_000)
-    seconds, peak, status, _ = run(program, script)
-    print(f"a script of {len(script):,} bytes: {seconds:.2f} s, "
-          f"peak of memory {peak / len(script):.1f} times the script, status {status}")
+    long = run_alone(program, script)
+    print(f"a script of {len(script):,} bytes: {long.seconds:.2f} s, "
+          f"peak of memory {long.peak / len(script):.1f} times the script, status {long.status}")
 
     for length in (LIMIT, LIMIT + 1):
         script = puts_of_length(length)
-        seconds, _, status, given = run(program, script)
-        print(f"a script of {length:,} bytes: {seconds:.2f} s, status {status}, "
-              f"{given // 4:,} of {script.count(10):,} puts answered")
+        limit = run_alone(program, script)
+        print(f"a script of {length:,} bytes: {limit.seconds:.2f} s, status {limit.status}, "
+              f"{limit.output.count(10):,} of {script.count(10):,} puts answered")
 
 
-main(sys.argv[1])
+if __name__ == "__main__":
+    main(sys.argv[1])

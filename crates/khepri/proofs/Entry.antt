@@ -1,22 +1,20 @@
 -- A run from the files at entry: the store is opened, and then the script is answered, or damage is reported.
-use Rattle.std.proofs.Common.{◌≡◌, ℕ, zero, suc, ◌+◌, ◌-◌, ◌<◌, ◌≤◌, Bool, true, false, leb, List, [], ◌++◌, length, take, Option, Some, None, refl, sym, ap, subst, ◌∙◌, inl, inr, ◌⊎◌, arith}
-use Rattle.std.specs.Prelude.{IfSome, IsSome}
+use Rattle.std.proofs.Common.{◌≡◌, ℕ, ◌<◌, List, [], ◌++◌, Option, Some, None, refl, sym, ap, subst, ◌∙◌, inl, inr, ◌⊎◌, arith}
+use Rattle.std.specs.Prelude.{IfSome}
 use Rattle.std.proofs.lemmas.List.{append-nil}
 use Rattle.kh_io.specs.declared.files.Files.{Files}
 use Rattle.kh_io.specs.Told.{Told, Kept, Extends, IsFrontOf}
-use Rattle.kh_io.specs.Disk.{file_of, AreImages, TellsFiles, Stays, FilesStay, LeavesOnly}
-use Rattle.kh_io.proofs.Moments.{started, both, weakened, images_stay}
+use Rattle.kh_io.specs.Disk.{file_of, AreImages, TellsFiles, FilesStay, LeavesOnly}
+use Rattle.kh_io.proofs.Moments.{started, both, weakened}
 use Rattle.kh_io.proofs.Telling.{told_map, told_both, kept_both}
-use Rattle.kh_log.specs.Records.{records_of, lacking_in, Content}
+use Rattle.kh_log.specs.Records.{Content}
 use Rattle.kh_log.proofs.Records.{content_of-short}
 use Rattle.kh_read.specs.declared.form.Form.{Form}
-use Rattle.khepri.specs.State.{State, empty, state_after, text_of}
-use Rattle.khepri.specs.Recovery.{Recovery, Recovered, Damaged, Replays, ends, ReplaysUnless, Recovers}
+use Rattle.khepri.specs.State.{State, empty, text_of}
+use Rattle.khepri.specs.Recovery.{Recovery, Recovered, Damaged, ends, ReplaysUnless, Recovers}
 use Rattle.khepri.specs.Store.{FilesTold, IsShort, Opening, ReadsAsBefore}
-use Rattle.khepri.specs.Script.{Ending, WholeScript}
 use Rattle.khepri.specs.Session.{Untouched, KeepsAnswered}
-use Rattle.khepri.specs.Serving.{Span}
-use Rattle.khepri.specs.Run.{IsCutOff, AtEntry, Never, Ran, Ends, damage_line, Reports, Runs, FindsDamage}
+use Rattle.khepri.specs.Run.{IsCutOff, AtEntry, Never, Ran, Ends, damage_line, Runs, FindsDamage}
 use Rattle.khepri.proofs.Recovery.{recovery_one}
 use Rattle.khepri.proofs.Scripts.{script_exists}
 use Rattle.khepri.proofs.Stands.{some_of}

@@ -1,12 +1,11 @@
 -- A command is executed: what the store was and is, and what a crash leaves on the way.
-use Rattle.std.proofs.Common.{ℕ, ℤ, ◌≡◌, ◌≢◌, ◌+◌, ◌<◌, nat_le, true, cond, List, [], ◌∷◌, ◌++◌, length, Option, Some, None, refl, sym, ap, subst, inl, inr, ◌∙◌, arith}
-use Rattle.std.proofs.lemmas.Bool.{cases_eq}
-use Rattle.std.specs.Prelude.{IfSome, IsSome, ◌&&◌}
+use Rattle.std.proofs.Common.{ℕ, ℤ, ◌≡◌, ◌+◌, nat_le, true, cond, List, [], ◌∷◌, ◌++◌, length, Option, Some, None, refl, sym, ap, subst, inl, inr, ◌∙◌, arith}
+use Rattle.std.specs.Prelude.{IfSome, ◌&&◌}
 use Rattle.kh_io.specs.declared.files.Files.{Files}
-use Rattle.kh_io.specs.Told.{Told, Kept}
-use Rattle.kh_io.specs.Disk.{AreImages, TellsFiles, IsSafe, LeavesOnly}
+use Rattle.kh_io.specs.Told.{Told}
+use Rattle.kh_io.specs.Disk.{AreImages, IsSafe, LeavesOnly}
 use Rattle.kh_io.proofs.Moments.{started, weakened}
-use Rattle.kh_log.specs.Records.{Content, content_of, records_of, lacking_in}
+use Rattle.kh_log.specs.Records.{Content, content_of, records_of}
 use Rattle.kh_log.specs.Log.{Place, Holds, moved, ImagesAre, EndsAt, IsBeforeOrAfter, Appending, whole}
 use Rattle.kh_log.proofs.Opening.{settled}
 use Rattle.kh_term.specs.declared.name.Name.{Name}
@@ -19,7 +18,6 @@ use Rattle.khepri.specs.State.{State, empty, log_limit, store_logs, store_after}
 use Rattle.khepri.specs.Recovery.{Recovery, Recovered, Replays, ends, applies, ReplaysUnless, Recovers}
 use Rattle.khepri.specs.Store.{Opened, state_of, Stands, Executing}
 use Rattle.khepri.proofs.Recovery.{replays_then}
-use Rattle.khepri.proofs.Open.{told_back}
 use Rattle.khepri.proofs.Stands.{left_recovers}
 
 -- files whose log is whole recover to what its records lead to
@@ -103,14 +101,6 @@ stands_after form store next (Some was) (Some now) image image' bytes stands tol
 }
 stands_after form store next None (Some now) image image' bytes stands told safe holds is replays = absurd told
 stands_after form store next seen None image image' bytes stands told safe holds is replays = record { safe = safe; found = tt; closed = tt; recovers = tt }
-
--- what is told of the files was told of them
-pub tells_before : (this : ℕ) (seen seen' : ℕ → Option (List ℕ)) → Told (seen this) (seen' this) (λ _ _. Unit {0})
-    → ((file : ℕ) → file < 4 → file ≢ this → Kept (seen file) (seen' file)) → TellsFiles seen' → TellsFiles seen
-tells_before this seen seen' here others tells file lt = elim (cases_eq file this) [
-  | inl same ↦ subst (λ f. IsSome (seen f)) (sym same) (told_back (λ _ _. Unit {0}) (seen this) (seen' this) here (subst (λ f. IsSome (seen' f)) same (tells file lt)))
-  | inr other ↦ told_back (λ was now. now ≡ was) (seen file) (seen' file) (others file lt other) (tells file lt)
-]
 
 -- a put that the log and the tree have room for is logged
 pub logs_it : (path : List Name) (number : ℤ) (store inside : Opened) (bytes : List ℕ) (at len : ℕ) → inside ≡ store → IsPut bytes path number

@@ -1,7 +1,7 @@
 -- A piece that is given in several calls.
 use Rattle.std.proofs.Common.{◌≡◌, ℕ, ◌≤◌, List, [], ◌++◌, take, drop, Option, Some, None, refl, sym, ap, subst, ◌∙◌, append_assoc, arith}
 use Rattle.std.proofs.lemmas.List.{take-append-drop, append-nil}
-use Rattle.kh_io.specs.Told.{Kept, Extends, IsFrontOf}
+use Rattle.kh_io.specs.Told.{Extends, IsFrontOf}
 use Rattle.kh_io.specs.Host.{Adds, MayAdd}
 use Rattle.kh_io.specs.declared.files.Files.{Files}
 use Rattle.kh_io.specs.Disk.{AreImages, FilesStay, Elapses, LeavesOnly}

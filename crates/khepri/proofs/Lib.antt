@@ -6,6 +6,7 @@ pub mod Recovery
 pub mod Replaying
 pub mod Safe
 pub mod Open
+pub mod LogAlone
 pub mod Stands
 pub mod Executing
 pub mod Giving

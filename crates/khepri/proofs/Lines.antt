@@ -1,5 +1,5 @@
 -- Answering line after line, as a loop does.
-use Rattle.std.proofs.Common.{◌≡◌, ◌≢◌, ℕ, ◌+◌, ◌<◌, ◌≤◌, Bool, true, false, List, [], ◌∷◌, ◌++◌, length, drop, Option, Some, None, Ok, Err, refl, sym, ap, subst, ◌∙◌, append_assoc, length-append, arith}
+use Rattle.std.proofs.Common.{◌≡◌, ◌≢◌, ℕ, ◌<◌, Bool, true, false, List, [], ◌∷◌, ◌++◌, length, drop, Option, Some, None, Ok, Err, refl, sym, ap, ◌∙◌, append_assoc, length-append, arith}
 use Rattle.std.specs.Prelude.{IfSome}
 use Rattle.std.proofs.lemmas.List.{append-nil, length-drop}
 use Rattle.kh_io.specs.declared.files.Files.{Files}
@@ -16,7 +16,7 @@ use Rattle.khepri.specs.State.{State, store_reply, store_after, state_after, tex
 use Rattle.khepri.specs.Recovery.{Recovered, Recovers}
 use Rattle.khepri.specs.Output.{GivesAll}
 use Rattle.khepri.specs.Script.{line_at, all_read, Script, ends, cut}
-use Rattle.khepri.specs.Session.{Answering, HasPrefix}
+use Rattle.khepri.specs.Session.{Answering}
 use Rattle.khepri.specs.Serving.{AnswerStops, Span, Served, ServedToFault, ServedPart, ServeStops}
 use Rattle.khepri.proofs.Scripts.{reads_starts, reads_on, reads_faulty, reads_cut, reads_begins}
 use Rattle.khepri.proofs.Replies.{text_of-append, state_after-append, prefix_more, prefix_whole, answering_is_prefix}

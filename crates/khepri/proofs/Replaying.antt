@@ -1,5 +1,5 @@
 -- The replay of the records of a log.
-use Rattle.std.proofs.Common.{◌≡◌, ◌≤◌, ◌+◌, ℕ, ℤ, false, nat_le, IsTrue, List, [], ◌∷◌, ◌++◌, length, take, drop, Option, Some, None, refl, ap, sym, subst, ◌∙◌, arith}
+use Rattle.std.proofs.Common.{◌≡◌, ◌≤◌, ◌+◌, ℕ, ℤ, false, nat_le, IsTrue, List, ◌∷◌, length, take, drop, Option, Some, None, refl, ap, sym, subst, ◌∙◌, arith}
 use Rattle.std.specs.Prelude.{slice_get, IfSome}
 use Rattle.std.proofs.lemmas.Bool.{and_parts, leb-true}
 use Rattle.std.proofs.lemmas.List.{drop_more, drop_all, take_all}
@@ -13,11 +13,10 @@ use Rattle.kh_log.specs.Log.{Place, Holds}
 use Rattle.khepri.specs.Tree.{Node}
 use Rattle.khepri.specs.Machine.{is_logged, after}
 use Rattle.khepri.specs.Command.{put_bytes, IsPut}
-use Rattle.khepri.specs.State.{State, empty, log_limit, store_after}
+use Rattle.khepri.specs.State.{State, empty, log_limit}
 use Rattle.khepri.specs.Recovery.{Recovery, Recovered, Damaged, IsNoRecord, Replays, ends, applies, refuses}
 use Rattle.khepri.specs.Opening.{IsRecord}
 use Rattle.khepri.proofs.Puts.{put_is_one}
-use Rattle.khepri.proofs.Recovery.{replays_then}
 
 -- a put that the tree has no room for is no record
 pub unlogged : (bytes : List ℕ) (path : List Name) (number : ℤ) (nodes : List Node) (span : ℕ) → IsPut bytes path number

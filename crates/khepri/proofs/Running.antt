@@ -1,6 +1,5 @@
 -- A run over an open store, from the first piece of the input to its end.
-use Rattle.std.proofs.Common.{◌≡◌, ℕ, ◌+◌, ◌-◌, ◌<◌, ◌≤◌, Bool, true, false, leb, List, [], ◌∷◌, ◌++◌, length, take, drop, Option, Some, None, refl, sym, ap, subst, ◌∙◌, append_assoc, inl, inr, ◌⊎◌, arith}
-use Rattle.std.specs.Prelude.{IfSome}
+use Rattle.std.proofs.Common.{◌≡◌, ℕ, ◌+◌, ◌-◌, ◌<◌, ◌≤◌, Bool, true, false, leb, List, [], ◌++◌, length, take, drop, Option, Some, None, refl, sym, ap, subst, ◌∙◌, append_assoc, inl, inr, ◌⊎◌, arith}
 use Rattle.std.proofs.lemmas.Bool.{le-leb, lt-leb}
 use Rattle.std.proofs.Math.Seq.{take-append-add}
 use Rattle.std.proofs.lemmas.List.{append-nil, length-append, take_all, take_at, drop-append-le}
@@ -16,10 +15,10 @@ use Rattle.khepri.specs.declared.input.Piece.TheVariants as piece
 use Rattle.khepri.specs.State.{State, state_after, text_of}
 use Rattle.khepri.specs.Recovery.{Recovered, Recovers}
 use Rattle.khepri.specs.Script.{Ending, AtEnd, AtFault, Unfinished, Script, Reads, EndsReading, BeginsReading, script_limit, WholeScript, ends}
-use Rattle.khepri.specs.Session.{Untouched, HasPrefix, KeepsAnswered}
+use Rattle.khepri.specs.Session.{Untouched, KeepsAnswered}
 use Rattle.khepri.specs.Serving.{Span, KeepsPrefix, Served, ServedToFault, ServedPart, ServesTo, ServeStops}
 use Rattle.khepri.specs.Input.{TakesMore, TakeStops}
-use Rattle.khepri.specs.Run.{stop_status, IsCutOff, Never, Ran, Ends}
+use Rattle.khepri.specs.Run.{stop_status, Never, Ran, Ends}
 use Rattle.khepri.proofs.Scripts.{reads_then, ends_then, begins_then, reads_more, reads_begins}
 use Rattle.khepri.proofs.Replies.{state_after-append, text_of-append, prefix_more, prefix_whole, prefix_behind, keeps_answered}
 use Rattle.khepri.proofs.Lines.{Counts, counts, told_counted, SoFar, nothing_served}

@@ -1,15 +1,13 @@
 -- A store that stands in its file, over calls that don't touch the files.
-use Rattle.std.proofs.Common.{◌≡◌, ℕ, ◌<◌, List, length, Option, Some, None, refl, sym, ap, subst, ◌∙◌, arith}
-use Rattle.std.specs.Prelude.{IfSome, IsSome}
+use Rattle.std.proofs.Common.{◌≡◌, ℕ, List, Option, Some, None, refl, ap, subst, ◌∙◌, arith}
+use Rattle.std.specs.Prelude.{IfSome}
 use Rattle.kh_io.specs.declared.files.Files.{Files}
-use Rattle.kh_io.specs.Told.{Told, Kept}
-use Rattle.kh_io.specs.Disk.{file_of, AreImages, TellsFiles, IsSafe, Stays, FilesStay}
-use Rattle.kh_log.specs.Records.{records_of, lacking_in, IsClosedAt}
+use Rattle.kh_io.specs.Disk.{AreImages, Stays}
+use Rattle.kh_log.specs.Records.{records_of}
 use Rattle.kh_log.specs.Log.{Holds}
-use Rattle.khepri.specs.State.{State, empty}
-use Rattle.khepri.specs.Recovery.{Recovery, Recovered, Replays, ReplaysUnless, Recovers}
+use Rattle.khepri.specs.State.{empty}
+use Rattle.khepri.specs.Recovery.{Recovered, Replays, Recovers}
 use Rattle.khepri.specs.Store.{Opened, state_of, Stands}
-use Rattle.khepri.proofs.Open.{told_back}
 
 pub some_of : (P : List ℕ → Type 0) (seen : Option (List ℕ)) (bytes : List ℕ) → seen ≡ Some bytes → IfSome seen P → P bytes
 some_of P (Some was) bytes same holds = subst P (unwrapped same) holds
@@ -49,7 +47,3 @@ stands_stay store seen None stay untold stands = record {
   closed = tt;
   recovers = tt;
 }
-
--- what is told at exit was told at entry
-pub tells_stay : {seen seen' : ℕ → Option (List ℕ)} {image image' : ℕ → List ℕ → Type 0} → FilesStay seen seen' image image' → TellsFiles seen' → TellsFiles seen
-tells_stay {seen} {seen'} stay tells file lt = told_back _ (seen file) (seen' file) (stay file lt).read (tells file lt)

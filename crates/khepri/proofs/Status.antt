@@ -1,13 +1,11 @@
 -- What a status tells.
-use Rattle.std.proofs.Common.{◌≡◌, ℕ, ◌-◌, ◌<◌, ◌^◌, List, Option, Result, Err, refl, ap, ◌∙◌, ◌⊎◌, inl, inr, arith}
-use Rattle.kh_io.specs.declared.files.Files.{Files}
+use Rattle.std.proofs.Common.{◌≡◌, ℕ, List, Option, Result, Err, refl, ap, ◌∙◌, ◌⊎◌, inl, inr, arith}
 use Rattle.kh_io.specs.Told.{Rose}
 use Rattle.kh_io.proofs.Telling.{told_map}
 use Rattle.khepri.specs.declared.session.Stop.{Stop}
 use Rattle.khepri.specs.declared.session.Stop.TheVariants as stop
 use Rattle.khepri.specs.Recovery.{Recovery, Recovered, Damaged, Recovers}
 use Rattle.khepri.specs.Store.{FilesTold}
-use Rattle.khepri.specs.Script.{Ending}
 use Rattle.khepri.specs.Serving.{Span}
 use Rattle.khepri.specs.Run.{stop_status, ending_status, IsCutOff, Runs, Stood, TellsEnding}
 use Rattle.khepri.proofs.Unique.{script_unique}

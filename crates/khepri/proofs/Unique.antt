@@ -1,5 +1,5 @@
 -- An input has one script.
-use Rattle.std.proofs.Common.{◌≡◌, ◌≢◌, ℕ, Bool, List, [], ◌∷◌, ◌++◌, Ok, Err, refl, sym, ap, subst, ◌∙◌}
+use Rattle.std.proofs.Common.{◌≡◌, ◌≢◌, ℕ, Bool, List, [], ◌∷◌, Ok, Err, refl, sym, ap, subst, ◌∙◌}
 use Rattle.kh_read.specs.declared.form.Form.{Form}
 use Rattle.kh_read.specs.Reading.{Read, Cut, Fault, form_at}
 use Rattle.khepri.specs.Script.{Ending, AtFault, line_at, cut_short, all_read, Script, ends, faulty, cut, line}

@@ -7,7 +7,7 @@ use Rattle.kh_read.specs.declared.form.Form.{Form}
 use Rattle.khepri.specs.declared.session.Stop.{Stop}
 use Rattle.khepri.specs.declared.session.Stop.TheVariants as stop
 use Rattle.khepri.specs.State.{State, state_after, text_of}
-use Rattle.khepri.specs.Script.{Ending, AtFault, all_read, Script, Reads, EndsReading, BeginsReading}
+use Rattle.khepri.specs.Script.{AtFault, all_read, Script, Reads, EndsReading, BeginsReading}
 use Rattle.khepri.specs.Session.{HasPrefix}
 
 -- why a form wasn't answered: the sink's count of faults rose, the disk's did, or memory ran out

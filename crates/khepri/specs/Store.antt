@@ -45,6 +45,10 @@ pub record Opening (seen : ℕ → Option (List ℕ)) (image : ℕ → List ℕ 
 abbrev pub ReadsAsBefore : (seen seen' : ℕ → Option (List ℕ)) → Type 0
 ReadsAsBefore seen seen' = (file : ℕ) → file < 4 → Told (seen file) (seen' file) (λ was now. (now ≡ was) ⊎ ((file ≡ 1) × IsShort was))
 
+-- A read gives what it gave of each file but file 1, which alone is written.
+abbrev pub WritesLogAlone : (seen seen' : ℕ → Option (List ℕ)) → Type 0
+WritesLogAlone seen seen' = (file : ℕ) → file < 4 → Told (seen file) (seen' file) (λ was now. (now ≡ was) ⊎ (file ≡ 1))
+
 -- What a crash while a command is executed may leave: files that recover to the state before it or to the state after it. The
 -- stamp is as it was.
 pub record Executing (form : Form) (old : State) (given : ℕ) (files : Files) (s : ℕ) : Type 0 where

@@ -1,7 +1,7 @@
 //! The store: the tree, and the log that keeps it over a crash.
 ghost use Rattle.std.specs.Prelude.{◌≡◌, ◌≤◌, ℕ, IsTrue, IfOk, OnOk, Err};
 ghost use Rattle.kh_io.specs.Told.{Kept, Rose};
-ghost use Rattle.kh_io.specs.Disk.{TellsFiles, LeavesOnly};
+ghost use Rattle.kh_io.specs.Disk.{LeavesOnly};
 ghost use Rattle.kh_read.specs.declared.form.Form.{Form};
 ghost use Rattle.kh_read.specs.declared.form.Form.TheVariants as form;
 ghost use Rattle.khepri.specs.declared.store.OpenError.TheVariants as open_error;
@@ -10,7 +10,7 @@ ghost use Rattle.khepri.specs.Opening.{opening_error};
 ghost use Rattle.khepri.specs.Command.{is_command, is_atom_path};
 ghost use Rattle.khepri.specs.State.{store_reply, store_after};
 ghost use Rattle.khepri.specs.Recovery.{Recovered, Damaged, Recovers};
-ghost use Rattle.khepri.specs.Store.{FilesTold, state_of, Stands, Opening, ReadsAsBefore, Executing};
+ghost use Rattle.khepri.specs.Store.{FilesTold, state_of, Stands, Opening, ReadsAsBefore, WritesLogAlone, Executing};
 
 use crate::command::pack_put;
 use crate::machine::store_full;
@@ -144,7 +144,7 @@ impl Store {
         ensures stands { OnOk result (Stands self.new (H.seen host.new 1) (H.image host.new 1)) }
         ensures any_moment { LeavesOnly (H.moment host.old) (H.moment host.new) (H.left_since host.old) (H.left_since host.new) (Executing form (state_of self.old) (H.stamp host.old)) }
         ensures no_memory { result ≡ Err store_error.NoMemory → (self.new ≡ self.old) × (host.new ≡ host.old) }
-        ensures told { TellsFiles (H.seen host.new) → TellsFiles (H.seen host.old) }
+        ensures files { WritesLogAlone (H.seen host.old) (H.seen host.new) }
         ensures fault { result ≡ Err store_error.DiskFault → Rose (H.disk_faults host.old) (H.disk_faults host.new) }
         ensures no_fault { OnOk result (H.disk_faults host.new ≡ H.disk_faults host.old) }
         ensures faults_stand { H.disk_faults host.old ≤ H.disk_faults host.new }
@@ -174,7 +174,7 @@ impl Store {
         ensures stands { OnOk result (Stands self.new (H.seen host.new 1) (H.image host.new 1)) }
         ensures any_moment { LeavesOnly (H.moment host.old) (H.moment host.new) (H.left_since host.old) (H.left_since host.new) (Executing (form.Put path number) (state_of self.old) (H.stamp host.old)) }
         ensures no_memory { result ≡ Err store_error.NoMemory → (self.new ≡ self.old) × (host.new ≡ host.old) }
-        ensures told { TellsFiles (H.seen host.new) → TellsFiles (H.seen host.old) }
+        ensures files { WritesLogAlone (H.seen host.old) (H.seen host.new) }
         ensures fault { result ≡ Err store_error.DiskFault → Rose (H.disk_faults host.old) (H.disk_faults host.new) }
         ensures no_fault { OnOk result (H.disk_faults host.new ≡ H.disk_faults host.old) }
         ensures faults_stand { H.disk_faults host.old ≤ H.disk_faults host.new }

@@ -3,7 +3,7 @@ ghost use Rattle.std.specs.Prelude.{◌≡◌, ◌↔◌, false, IsTrue};
 ghost use Rattle.kh_io.specs.Told.{Rose};
 ghost use Rattle.khepri.specs.Words.{are_right};
 ghost use Rattle.khepri.specs.Recovery.{Recovery, Recovers};
-ghost use Rattle.khepri.specs.Store.{FilesTold};
+ghost use Rattle.khepri.specs.Store.{FilesTold, WritesLogAlone};
 ghost use Rattle.khepri.specs.Run.{Runs, FindsDamage, Stood, OneScript, TellsEnding};
 
 use crate::run::run;
@@ -22,6 +22,8 @@ pub fn khepri<H: Host>(alloc: Global, words: &[String], host: &mut H) -> u8
     ensures session { IsTrue (are_right words.now) → FilesTold (H.seen host.old) (H.seen host.new) (λ files. (found : Recovery) → Recovers files found → Runs found result
         (record { stamp = H.stamp host.old; from = H.moment host.old; to = H.moment host.new; past = H.left_since host.old; since = H.left_since host.new })
         (H.image host.old) (H.image host.new) (H.seen host.old) (H.seen host.new) (H.left host.old) (H.left host.new) (H.given host.old) (H.given host.new)) }
+
+    ensures files { WritesLogAlone (H.seen host.old) (H.seen host.new) }
 
     // Where no call of the host fails, the status says how the run ends.
     ensures status { IsTrue (are_right words.now) → Stood (H.read_faults host.old) (H.read_faults host.new) → Stood (H.write_faults host.old) (H.write_faults host.new)

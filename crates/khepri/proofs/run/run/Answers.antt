@@ -8,6 +8,7 @@ use Rattle.khepri.specs.declared.store.OpenError.{OpenError}
 use Rattle.khepri.specs.Run.{stop_status, IsCutOff, damage_line}
 use Rattle.khepri.specs.Store.{Opened, state_of}
 use Rattle.khepri.proofs.Entry.{runs_opened, runs_damaged, runs_unopened, runs_untouched, finds_damage}
+use Rattle.khepri.proofs.LogAlone.{none_written, log_begun, files_stay, written_then, written_tells}
 use Rattle.khepri.proofs.run.run.Goals as goal
 
 abbrev stopped : Stop → Result (Unit {0}) Stop
@@ -70,7 +71,7 @@ returns-in-Ok-open-clause-ran g c =
     (host.given c.args.host.now) (host.given c.open.new.host) (host.given c.answer_script.new.host) (host.stamp c.args.host.now) (host.stamp c.open.new.host)
     (host.moment c.args.host.now) (host.moment c.open.new.host) (host.moment c.answer_script.new.host)
     (host.left_since c.args.host.now) (host.left_since c.open.new.host) (host.left_since c.answer_script.new.host)
-    opened.recovered ran.told opened.stamp opened.any_moment opened.input opened.sink ran.ran
+    opened.recovered (written_tells (host.seen c.open.new.host) (host.seen c.answer_script.new.host) ran.files) opened.stamp opened.any_moment opened.input opened.sink ran.ran
 
 pub returns-in-Err-Damaged-clause-ran : goal.returns-in-Err-Damaged-clause-ran
 returns-in-Err-Damaged-clause-ran g c =
@@ -134,3 +135,25 @@ returns-clause-ran g c =
     (host.left c.args.host.now) (host.left c.open.new.host) (host.given c.args.host.now) (host.given c.open.new.host) (host.stamp c.args.host.now)
     (host.moment c.args.host.now) (host.moment c.open.new.host) (host.left_since c.args.host.now) (host.left_since c.open.new.host)
     opened.reads opened.any_moment opened.input opened.sink (inr refl)
+
+pub returns-in_default-clause-files : goal.returns-in_default-clause-files
+returns-in_default-clause-files g c = let host = g.H.Disk in none_written (host.seen c.args.host.now)
+
+pub returns-in-Ok-open-clause-files : goal.returns-in-Ok-open-clause-files
+returns-in-Ok-open-clause-files g c =
+    let host = g.H.Disk in
+    written_then (host.seen c.args.host.now) (host.seen c.open.new.host) (host.seen c.answer_script.new.host)
+    (log_begun (host.seen c.args.host.now) (host.seen c.open.new.host) c.in-Ok-open.ensures.reads) c.answer_script.ensures.files
+
+pub returns-in-Err-Damaged-clause-files : goal.returns-in-Err-Damaged-clause-files
+returns-in-Err-Damaged-clause-files g c =
+    let host = g.H.Disk in
+    written_then (host.seen c.args.host.now) (host.seen c.open.new.host) (host.seen c.report.new.host)
+    (log_begun (host.seen c.args.host.now) (host.seen c.open.new.host) c.in-Err-Damaged.ensures.reads)
+    (files_stay (host.seen c.open.new.host) (host.seen c.report.new.host) (host.image c.open.new.host) (host.image c.report.new.host) c.report.ensures.files)
+
+pub returns-in-Err-DiskFault-clause-files : goal.returns-in-Err-DiskFault-clause-files
+returns-in-Err-DiskFault-clause-files g c = let host = g.H.Disk in log_begun (host.seen c.args.host.now) (host.seen c.open.new.host) c.in-Err-DiskFault.ensures.reads
+
+pub returns-clause-files : goal.returns-clause-files
+returns-clause-files g c = let host = g.H.Disk in log_begun (host.seen c.args.host.now) (host.seen c.open.new.host) c.in-Err-NoMemory.ensures.reads

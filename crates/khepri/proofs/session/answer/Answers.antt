@@ -1,7 +1,7 @@
 use Rattle.std.proofs.Common.{◌∙◌, ap}
 use Rattle.kh_text_defs.specs.Shown.{shown_line}
 use Rattle.khepri.proofs.Answering.{none_given, front_given, answered}
-use Rattle.khepri.proofs.Stands.{tells_stay}
+use Rattle.khepri.proofs.LogAlone.{written_then, files_stay}
 use Rattle.khepri.proofs.session.answer.Goals as goal
 
 pub returns-in-Err-DiskFault-clause-front : goal.returns-in-Err-DiskFault-clause-front
@@ -22,8 +22,11 @@ returns-in-Ok-give_all-clause-any_moment g c =
     answered c.args.form _ c.execute.new.self (host.seen c.execute.new.host) _ _ _ c.execute.ensures.stamp c.give_all.ensures.stamp
     c.in-Ok.ensures.stands c.in-Ok.ensures.after c.execute.ensures.any_moment c.give_all.ensures.any_moment
 
-pub returns-in-Ok-give_all-clause-told : goal.returns-in-Ok-give_all-clause-told
-returns-in-Ok-give_all-clause-told g c tells = c.execute.ensures.told (tells_stay c.give_all.ensures.files tells)
+pub returns-in-Ok-give_all-clause-files : goal.returns-in-Ok-give_all-clause-files
+returns-in-Ok-give_all-clause-files g c =
+    let host = g.H.Disk in
+    written_then (host.seen c.args.host.now) (host.seen c.execute.new.host) (host.seen c.give_all.new.host) c.execute.ensures.files
+    (files_stay (host.seen c.execute.new.host) (host.seen c.give_all.new.host) (host.image c.execute.new.host) (host.image c.give_all.new.host) c.give_all.ensures.files)
 
 pub returns-clause-front : goal.returns-clause-front
 returns-clause-front g c =
@@ -37,5 +40,8 @@ returns-clause-any_moment g c =
     answered c.args.form _ c.execute.new.self (host.seen c.execute.new.host) _ _ _ c.execute.ensures.stamp c.give_all.ensures.stamp
     c.in-Ok.ensures.stands c.in-Ok.ensures.after c.execute.ensures.any_moment c.give_all.ensures.any_moment
 
-pub returns-clause-told : goal.returns-clause-told
-returns-clause-told g c tells = c.execute.ensures.told (tells_stay c.give_all.ensures.files tells)
+pub returns-clause-files : goal.returns-clause-files
+returns-clause-files g c =
+    let host = g.H.Disk in
+    written_then (host.seen c.args.host.now) (host.seen c.execute.new.host) (host.seen c.give_all.new.host) c.execute.ensures.files
+    (files_stay (host.seen c.execute.new.host) (host.seen c.give_all.new.host) (host.image c.execute.new.host) (host.image c.give_all.new.host) c.give_all.ensures.files)

@@ -11,7 +11,8 @@ use Rattle.khepri.specs.Command.{IsPut}
 use Rattle.khepri.specs.Machine.{is_logged, after}
 use Rattle.khepri.specs.State.{log_limit, store_after}
 use Rattle.khepri.specs.Store.{Opened, state_of}
-use Rattle.khepri.proofs.Executing.{stood, closed_left, writes, stands_after, tells_before, logs_it, one_record, logged_state}
+use Rattle.khepri.proofs.LogAlone.{log_written}
+use Rattle.khepri.proofs.Executing.{stood, closed_left, writes, stands_after, logs_it, one_record, logged_state}
 use Rattle.khepri.proofs.store.Store.execute_put.Goals as goal
 
 pub returns-in_err-bytes-clause-any_moment : goal.returns-in_err-bytes-clause-any_moment
@@ -127,14 +128,14 @@ returns-in-Ok-clause-stands g c =
     stands_after (form.Put c.args.path c.args.number) store (record { nodes = c.apply.new.self; place = c.append.new.self }) (host.seen c.args.host.now 1) (host.seen c.append.new.host 1)
     (host.image c.args.host.now 1) (host.image c.append.new.host 1) bytes c.requires.stands appended safe left state replays
 
-pub returns-in-Ok-clause-told : goal.returns-in-Ok-clause-told
-returns-in-Ok-clause-told g c =
+pub returns-in-Ok-clause-files : goal.returns-in-Ok-clause-files
+returns-in-Ok-clause-files g c =
     let host = g.H.Disk in
-    tells_before c.self.inside.log.file (host.seen c.args.host.now) (host.seen c.append.new.host) c.append.ensures.told
+    log_written c.self.inside.log.file (host.seen c.args.host.now) (host.seen c.append.new.host) c.self.invariant.0 c.append.ensures.told
     (λ file lt other. (c.append.ensures.others file lt other).read)
 
-pub returns-clause-told : goal.returns-clause-told
-returns-clause-told g c =
+pub returns-clause-files : goal.returns-clause-files
+returns-clause-files g c =
     let host = g.H.Disk in
-    tells_before c.self.inside.log.file (host.seen c.args.host.now) (host.seen c.append.new.host) c.append.ensures.told
+    log_written c.self.inside.log.file (host.seen c.args.host.now) (host.seen c.append.new.host) c.self.invariant.0 c.append.ensures.told
     (λ file lt other. (c.append.ensures.others file lt other).read)
