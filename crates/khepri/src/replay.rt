@@ -73,7 +73,10 @@ pub fn replay<H: Host>(alloc: Global, host: &mut H, log: &mut Log) -> Result<Tre
     let mut span = 0;
     'records: while let Some(bytes) = log.read(alloc, host)? {
         if !apply_record(alloc, &mut tree, span, &bytes)? {
-            return Err(OpenError::Damaged(1, span + 1));
+            return Err(OpenError::Damaged {
+                file: 1,
+                offset: span + 1,
+            });
         }
         span += 5 + bytes.len() as u64;
     }

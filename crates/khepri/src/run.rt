@@ -51,7 +51,7 @@ pub fn run<H: Host>(alloc: Global, host: &mut H) -> Result<(), Stop>
     };
     match Store::open(alloc, host) {
         Ok(mut store) => answer_script(alloc, host, &mut store, buffer.as_mut_slice()),
-        Err(OpenError::Damaged(file, offset)) => Err(report(alloc, host, file, offset)),
+        Err(OpenError::Damaged { file, offset }) => Err(report(alloc, host, file, offset)),
         Err(OpenError::DiskFault) => Err(Stop::DiskFault),
         Err(OpenError::NoMemory) => Err(Stop::NoMemory),
     }

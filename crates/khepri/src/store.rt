@@ -29,8 +29,8 @@ use thiserror::Error;
 #[derive(Clone, Copy, Debug, PartialEq, Eq, Drop, Error)]
 pub enum OpenError {
     /// The first damage, by its file and its offset.
-    #[error("file {0} is damaged at offset {1}")]
-    Damaged(u8, u64),
+    #[error("file {file} is damaged at offset {offset}")]
+    Damaged { file: u8, offset: u64 },
     #[error("the disk has failed")]
     DiskFault,
     #[error("out of memory")]
@@ -59,7 +59,7 @@ impl From<LogError> for OpenError {
     fn from(error: LogError) -> Self {
         match error {
             LogError::DiskFault => OpenError::DiskFault,
-            LogError::NotALog(offset) => OpenError::Damaged(1, offset),
+            LogError::NotALog(offset) => OpenError::Damaged { file: 1, offset },
             LogError::NoMemory => OpenError::NoMemory,
         }
     }
