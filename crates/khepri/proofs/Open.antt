@@ -15,8 +15,8 @@ use Rattle.kh_log.proofs.Records.{content_of-short}
 use Rattle.kh_log.proofs.Opening.{nothing_ends}
 use Rattle.khepri.specs.State.{empty}
 use Rattle.khepri.specs.Recovery.{Recovery, Damaged, Replays, ReplaysUnless, Recovers}
-use Rattle.khepri.specs.Store.{FilesTold, IsShort, Opening}
-use Rattle.khepri.specs.Opening.{Begun, WasShort, Beginning, opening_error}
+use Rattle.khepri.specs.Store.{FilesTold, IsShort, Begun, Opening}
+use Rattle.khepri.specs.Opening.{WasShort, Beginning, opening_error}
 
 -- ---- what a crash leaves
 
@@ -106,6 +106,11 @@ begun_content was now begun = elim begun [
   | inl there ↦ ap content_of there.1
   | inr short ↦ ap content_of short.1 ∙ nothing_ends.content ∙ sym (content_of-short was short.0)
 ]
+
+-- a log was begun, over calls before and behind that leave it
+pub begun_between : (a b c d : Option (List ℕ)) → Kept a b → Told b c Begun → Kept c d → Told a d Begun
+begun_between a b c d kept begun kept' = told_both a c d (told_both a b c kept begun (λ x y z p q. subst (λ (w : List ℕ). Begun w z) p q)) kept'
+    (λ x z u p q. subst (Begun x) (sym q) p)
 
 -- what file 1 held at entry, seen in the file that a log was begun in
 pub content_before : (a b c : Option (List ℕ)) → Kept a b → Told b c Begun → Told a c (λ was now. content_of now ≡ content_of was)

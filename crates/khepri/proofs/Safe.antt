@@ -1,11 +1,12 @@
 -- Files that a crash leaves as a read gives them, and a log that is begun in one.
-use Rattle.std.proofs.Common.{ℕ, ◌≡◌, ◌<◌, List, length, Option, Some, None, refl, ap, ◌∙◌, arith}
-use Rattle.std.proofs.lemmas.Bool.{false≢true}
+use Rattle.std.proofs.Common.{ℕ, ◌≡◌, ◌<◌, List, length, Option, Some, None, refl, sym, ap, subst, ◌∙◌, inl, inr, arith}
+use Rattle.std.proofs.lemmas.Bool.{cases_eq, false≢true}
 use Rattle.std.specs.Prelude.{IsSome}
 use Rattle.kh_io.specs.declared.files.Files.{Files}
 use Rattle.kh_io.specs.Told.{Told, Kept}
-use Rattle.kh_io.specs.Disk.{Torn, CutBack, Follows, Stays, IsSafe}
-use Rattle.khepri.specs.Store.{IsShort}
+use Rattle.kh_io.specs.Disk.{Torn, CutBack, Follows, FilesStay, IsSafe}
+use Rattle.kh_io.proofs.Telling.{told_map}
+use Rattle.khepri.specs.Store.{AreSafe, IsShort, WritesLogAlone}
 use Rattle.khepri.specs.Opening.{LeftShort, WasShort}
 
 -- what was told and is told still
@@ -14,9 +15,29 @@ still_told (Some x) (Some y) bytes same kept told = ap Some kept ∙ same
 still_told None (Some y) bytes same kept told = absurd kept
 still_told a None bytes same kept told = absurd (told refl)
 
--- a file that stays is as safe as it was
-pub still_safe : {a b : Option (List ℕ)} {i j : List ℕ → Type 0} → IsSafe a i → Stays a b i j → ((bytes : List ℕ) → b ≡ None → j bytes → ⊥) → IsSafe b j
-still_safe {a} {b} safe stay untold bytes there = still_told a b bytes (safe bytes (stay.only bytes there)) stay.read (λ none. untold bytes none there)
+-- a file of which a read gives what it gave, and a crash leaves nothing more, is as safe as it was
+pub still_safe : {a b : Option (List ℕ)} {i j : List ℕ → Type 0} → IsSafe a i → Kept a b → ((bytes : List ℕ) → j bytes → i bytes)
+    → ((bytes : List ℕ) → b ≡ None → j bytes → ⊥) → IsSafe b j
+still_safe {a} {b} safe kept only untold bytes there = still_told a b bytes (safe bytes (only bytes there)) kept (λ none. untold bytes none there)
+
+-- a crash leaves nothing of a file that isn't told
+abbrev pub NoneUntold : (seen : ℕ → Option (List ℕ)) (image : ℕ → List ℕ → Type 0) → Type 0
+NoneUntold seen image = (file : ℕ) (bytes : List ℕ) → file < 4 → seen file ≡ None → image file bytes → ⊥
+
+-- all files are safe after a call that leaves them
+pub all_safe : {seen seen' : ℕ → Option (List ℕ)} {image image' : ℕ → List ℕ → Type 0} → AreSafe seen image → FilesStay seen seen' image image'
+    → NoneUntold seen' image' → AreSafe seen' image'
+all_safe safe stay untold file lt = still_safe (safe file lt) (stay file lt).read (stay file lt).only (λ bytes. untold file bytes lt)
+
+-- and after calls that write file 1 alone, where that is safe
+pub log_safe : {seen seen' : ℕ → Option (List ℕ)} {image image' : ℕ → List ℕ → Type 0} → AreSafe seen image → WritesLogAlone seen seen' image image'
+    → IsSafe (seen' 1) (image' 1) → NoneUntold seen' image' → AreSafe seen' image'
+log_safe {seen} {seen'} {image} {image'} safe writes log untold file lt = elim (cases_eq file 1) [
+  | inl one ↦ subst (λ f. IsSafe (seen' f) (image' f)) (sym one) log
+  | inr other ↦
+      let kept = told_map (seen file) (seen' file) (writes.reads file lt) (λ was now is. elim is [ inl same ↦ same | inr one ↦ absurd (other one) ]) in
+      still_safe (safe file lt) kept (writes.images file lt other) (λ bytes. untold file bytes lt)
+]
 
 -- a file of which something is left is told
 pub told_if_left : (seen : Option (List ℕ)) → (seen ≡ None → ⊥) → IsSome seen

@@ -1,9 +1,8 @@
 -- How a store is opened: its log is begun where there is none, and the records are applied.
-use Rattle.std.specs.Prelude.{◌≡◌, ◌⊎◌, ℕ, ◌≤◌, List, [], length, Option, Some, None, IsSome, ℤ, IsTrue}
+use Rattle.std.specs.Prelude.{◌≡◌, ◌⊎◌, ℕ, List, Option, Some, None, IsSome, ℤ, IsTrue}
 use Rattle.kh_term.specs.declared.name.Name.{Name}
 use Rattle.kh_io.specs.declared.files.Files.{Files}
 use Rattle.kh_io.specs.Disk.{AreImages}
-use Rattle.kh_log.specs.Records.{log_of}
 use Rattle.kh_read.specs.declared.form.Form.TheVariants as form
 use Rattle.kh_log.specs.declared.error.LogError.{LogError}
 use Rattle.kh_log.specs.declared.error.LogError.TheVariants as log_error
@@ -12,10 +11,6 @@ use Rattle.khepri.specs.declared.store.OpenError.TheVariants as open_error
 use Rattle.khepri.specs.Command.{IsPut}
 use Rattle.khepri.specs.State.{State, store_logs, store_after}
 use Rattle.khepri.specs.Store.{IsShort}
-
--- file 1 before a log is begun in it, and after: it stays where it held one, and else holds one without records
-abbrev pub Begun : List ℕ → List ℕ → Type 0
-Begun was now = ((2 ≤ length was) × (now ≡ was)) ⊎ (IsShort was × (now ≡ log_of []))
 
 -- the file was told, and held no log
 abbrev pub WasShort : Option (List ℕ) → Type 0

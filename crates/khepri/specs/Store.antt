@@ -1,5 +1,5 @@
 -- A store that is open, and what a crash leaves while its calls run.
-use Rattle.std.specs.Prelude.{◌≡◌, ◌⊎◌, ℕ, ◌<◌, List, length, Option, Some, IfSome}
+use Rattle.std.specs.Prelude.{◌≡◌, ◌≢◌, ◌⊎◌, ℕ, ◌<◌, ◌≤◌, List, [], ◌∷◌, length, Option, Some, IfSome}
 use Rattle.kh_io.specs.declared.files.Files.{Files}
 use Rattle.kh_io.specs.Told.{Told}
 use Rattle.kh_io.specs.Disk.{file_of, AreImages, TellsFiles, IsSafe}
@@ -41,13 +41,22 @@ pub record Opening (seen : ℕ → Option (List ℕ)) (image : ℕ → List ℕ 
   pub stamp : s ≡ given
   pub left : AreImages image files ⊎ (IsShort files.l0 × IfSome (seen 1) IsShort)
 
+-- What a read gives of file 1 before a log is begun in it, and after: the same where it held a log, and else the one byte `00`.
+abbrev pub Begun : (was now : List ℕ) → Type 0
+Begun was now = ((2 ≤ length was) × (now ≡ was)) ⊎ (IsShort was × (now ≡ 0 ∷ []))
+
 -- what a read gives after a store was opened: what it gave before, but for a file 1 that held no log
 abbrev pub ReadsAsBefore : (seen seen' : ℕ → Option (List ℕ)) → Type 0
 ReadsAsBefore seen seen' = (file : ℕ) → file < 4 → Told (seen file) (seen' file) (λ was now. (now ≡ was) ⊎ ((file ≡ 1) × IsShort was))
 
--- A read gives what it gave of each file but file 1, which alone is written.
-abbrev pub WritesLogAlone : (seen seen' : ℕ → Option (List ℕ)) → Type 0
-WritesLogAlone seen seen' = (file : ℕ) → file < 4 → Told (seen file) (seen' file) (λ was now. (now ≡ was) ⊎ (file ≡ 1))
+-- File 1 alone is written: of each other file a read gives what it gave, and a crash leaves nothing that it couldn't have left before.
+pub record WritesLogAlone (seen seen' : ℕ → Option (List ℕ)) (image image' : ℕ → List ℕ → Type 0) : Type 0 where
+  pub reads : (file : ℕ) → file < 4 → Told (seen file) (seen' file) (λ was now. (now ≡ was) ⊎ (file ≡ 1))
+  pub images : (file : ℕ) → file < 4 → file ≢ 1 → (bytes : List ℕ) → image' file bytes → image file bytes
+
+-- a crash leaves of each file what a read gives
+abbrev pub AreSafe : (seen : ℕ → Option (List ℕ)) (image : ℕ → List ℕ → Type 0) → Type 0
+AreSafe seen image = (file : ℕ) → file < 4 → IsSafe (seen file) (image file)
 
 -- What a crash while a command is executed may leave: files that recover to the state before it or to the state after it. The
 -- stamp is as it was.

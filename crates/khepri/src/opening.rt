@@ -1,17 +1,16 @@
 //! What is done to the files before a log is opened.
-ghost use Rattle.std.specs.Prelude.{◌≡◌, ◌⊎◌, ◌≤◌, ◌<◌, ℕ, List, [], OnOk, OnErr};
+ghost use Rattle.std.specs.Prelude.{◌≡◌, ◌⊎◌, ◌≤◌, ◌<◌, ℕ, List, [], ◌∷◌, OnOk, OnErr};
 ghost use Rattle.kh_io.specs.Told.{Told, Kept, Rose};
 ghost use Rattle.kh_io.specs.Disk.{OthersStay, IsSafe, LeavesOnly};
-ghost use Rattle.kh_log.specs.Records.{log_of};
 ghost use Rattle.kh_log.specs.Log.{Reading};
-ghost use Rattle.khepri.specs.Store.{IsShort, ReadsAsBefore};
-ghost use Rattle.khepri.specs.Opening.{Begun, Beginning, LeftShort, WasShort};
+ghost use Rattle.khepri.specs.Store.{AreSafe, IsShort, Begun, ReadsAsBefore};
+ghost use Rattle.khepri.specs.Opening.{Beginning, LeftShort, WasShort};
 
 use kh_io::{Failed, Host};
 
 /// Makes all files safe.
 pub fn sync_all<H: Host>(host: &mut H) -> Result<(), Failed>
-    ensures safe { OnOk result ((file : ℕ) → file < 4 → IsSafe (H.seen host.new file) (H.image host.new file)) }
+    ensures safe { OnOk result (AreSafe (H.seen host.new) (H.image host.new)) }
     ensures reads { (file : ℕ) → file < 4 → Kept (H.seen host.old file) (H.seen host.new file) }
     ensures no_new_images { (file : ℕ) → file < 4 → (bytes : List ℕ) → H.image host.new file bytes → H.image host.old file bytes }
     ensures any_moment { LeavesOnly (H.moment host.old) (H.moment host.new) (H.left_since host.old) (H.left_since host.new) (Reading (H.image host.old) (H.stamp host.old)) }
@@ -57,7 +56,7 @@ pub fn begin_log<H: Host>(host: &mut H) -> Result<(), Failed>
 // Writes a log without records in the place of a file that is too short for one.
 fn write_empty<H: Host>(host: &mut H) -> Result<(), Failed>
     requires short { (bytes : List ℕ) → H.image host.old 1 bytes → IsShort bytes }
-    ensures written { OnOk result (Told (H.seen host.old 1) (H.seen host.new 1) (λ _ now. now ≡ log_of [])) }
+    ensures written { OnOk result (Told (H.seen host.old 1) (H.seen host.new 1) (λ _ now. now ≡ 0 ∷ [])) }
     ensures told { Told (H.seen host.old 1) (H.seen host.new 1) (λ _ _. Unit {0}) }
     ensures short { (bytes : List ℕ) → H.image host.new 1 bytes → IsShort bytes }
     ensures safe { OnOk result (IsSafe (H.seen host.new 1) (H.image host.new 1)) }

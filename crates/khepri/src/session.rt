@@ -49,7 +49,7 @@ pub fn answer<H: Host>(
     ensures any_moment { LeavesOnly (H.moment host.old) (H.moment host.new) (H.left_since host.old) (H.left_since host.new)
         (Answering form (state_of store.old) (H.stamp host.old) (H.stamp host.new)) }
     ensures stops { IfErr result (λ stop. AnswerStops stop (Rose (H.write_faults host.old) (H.write_faults host.new)) (Rose (H.disk_faults host.old) (H.disk_faults host.new))) }
-    ensures files { WritesLogAlone (H.seen host.old) (H.seen host.new) }
+    ensures files { WritesLogAlone (H.seen host.old) (H.seen host.new) (H.image host.old) (H.image host.new) }
     ensures no_fault { OnOk result (H.write_faults host.new ≡ H.write_faults host.old) }
     ensures no_disk_fault { OnOk result (H.disk_faults host.new ≡ H.disk_faults host.old) }
     ensures input { Kept (H.left host.old) (H.left host.new) }
@@ -88,7 +88,7 @@ pub fn serve<H: Host>(
     ensures stops { IfErr result (λ stop. ServeStops stop is_end (drop at input.now) (state_of store.old)
         (record { stamp = H.stamp host.old; from = H.moment host.old; to = H.moment host.new; past = H.left_since host.old; since = H.left_since host.new })
         (H.given host.old) (H.given host.new) (Rose (H.write_faults host.old) (H.write_faults host.new)) (Rose (H.disk_faults host.old) (H.disk_faults host.new))) }
-    ensures files { WritesLogAlone (H.seen host.old) (H.seen host.new) }
+    ensures files { WritesLogAlone (H.seen host.old) (H.seen host.new) (H.image host.old) (H.image host.new) }
     ensures no_fault { OnOk result (H.write_faults host.new ≡ H.write_faults host.old) }
     ensures no_disk_fault { OnOk result (H.disk_faults host.new ≡ H.disk_faults host.old) }
     ensures input { Kept (H.left host.old) (H.left host.new) }

@@ -1,6 +1,6 @@
 //! The store: the tree, and the log that keeps it over a crash.
-ghost use Rattle.std.specs.Prelude.{◌≡◌, ◌≤◌, ℕ, IsTrue, IfOk, OnOk, Err};
-ghost use Rattle.kh_io.specs.Told.{Kept, Rose};
+ghost use Rattle.std.specs.Prelude.{◌≡◌, ◌≢◌, ◌≤◌, ℕ, IsTrue, IfOk, OnOk, Err};
+ghost use Rattle.kh_io.specs.Told.{Told, Kept, Rose};
 ghost use Rattle.kh_io.specs.Disk.{LeavesOnly};
 ghost use Rattle.kh_read.specs.declared.form.Form.{Form};
 ghost use Rattle.kh_read.specs.declared.form.Form.TheVariants as form;
@@ -10,7 +10,7 @@ ghost use Rattle.khepri.specs.Opening.{opening_error};
 ghost use Rattle.khepri.specs.Command.{is_command, is_atom_path};
 ghost use Rattle.khepri.specs.State.{store_reply, store_after};
 ghost use Rattle.khepri.specs.Recovery.{Recovered, Damaged, Recovers};
-ghost use Rattle.khepri.specs.Store.{FilesTold, state_of, Stands, Opening, ReadsAsBefore, WritesLogAlone, Executing};
+ghost use Rattle.khepri.specs.Store.{FilesTold, state_of, Stands, AreSafe, Begun, Opening, ReadsAsBefore, WritesLogAlone, Executing};
 
 use crate::command::pack_put;
 use crate::machine::store_full;
@@ -116,7 +116,10 @@ impl Store {
         ensures recovered { IfOk result (λ store. FilesTold (H.seen host.old) (H.seen host.new) (λ files. Recovers files (Recovered (state_of store)))) }
         ensures damaged { (file offset : ℕ) → result ≡ Err (open_error.Damaged file offset) → FilesTold (H.seen host.old) (H.seen host.new) (λ files. Recovers files (Damaged file offset)) }
         ensures stands { IfOk result (λ store. Stands store (H.seen host.new 1) (H.image host.new 1)) }
+        ensures safe { result ≢ Err open_error.DiskFault → AreSafe (H.seen host.new) (H.image host.new) }
+        ensures begun { result ≢ Err open_error.DiskFault → Told (H.seen host.old 1) (H.seen host.new 1) Begun }
         ensures reads { ReadsAsBefore (H.seen host.old) (H.seen host.new) }
+        ensures files { WritesLogAlone (H.seen host.old) (H.seen host.new) (H.image host.old) (H.image host.new) }
         ensures any_moment { LeavesOnly (H.moment host.old) (H.moment host.new) (H.left_since host.old) (H.left_since host.new) (Opening (H.seen host.old) (H.image host.old) (H.stamp host.old)) }
         ensures fault { result ≡ Err open_error.DiskFault → Rose (H.disk_faults host.old) (H.disk_faults host.new) }
         ensures no_fault { OnOk result (H.disk_faults host.new ≡ H.disk_faults host.old) }
@@ -144,7 +147,7 @@ impl Store {
         ensures stands { OnOk result (Stands self.new (H.seen host.new 1) (H.image host.new 1)) }
         ensures any_moment { LeavesOnly (H.moment host.old) (H.moment host.new) (H.left_since host.old) (H.left_since host.new) (Executing form (state_of self.old) (H.stamp host.old)) }
         ensures no_memory { result ≡ Err store_error.NoMemory → (self.new ≡ self.old) × (host.new ≡ host.old) }
-        ensures files { WritesLogAlone (H.seen host.old) (H.seen host.new) }
+        ensures files { WritesLogAlone (H.seen host.old) (H.seen host.new) (H.image host.old) (H.image host.new) }
         ensures fault { result ≡ Err store_error.DiskFault → Rose (H.disk_faults host.old) (H.disk_faults host.new) }
         ensures no_fault { OnOk result (H.disk_faults host.new ≡ H.disk_faults host.old) }
         ensures faults_stand { H.disk_faults host.old ≤ H.disk_faults host.new }
@@ -174,7 +177,7 @@ impl Store {
         ensures stands { OnOk result (Stands self.new (H.seen host.new 1) (H.image host.new 1)) }
         ensures any_moment { LeavesOnly (H.moment host.old) (H.moment host.new) (H.left_since host.old) (H.left_since host.new) (Executing (form.Put path number) (state_of self.old) (H.stamp host.old)) }
         ensures no_memory { result ≡ Err store_error.NoMemory → (self.new ≡ self.old) × (host.new ≡ host.old) }
-        ensures files { WritesLogAlone (H.seen host.old) (H.seen host.new) }
+        ensures files { WritesLogAlone (H.seen host.old) (H.seen host.new) (H.image host.old) (H.image host.new) }
         ensures fault { result ≡ Err store_error.DiskFault → Rose (H.disk_faults host.old) (H.disk_faults host.new) }
         ensures no_fault { OnOk result (H.disk_faults host.new ≡ H.disk_faults host.old) }
         ensures faults_stand { H.disk_faults host.old ≤ H.disk_faults host.new }

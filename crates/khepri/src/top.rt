@@ -1,9 +1,9 @@
 //! The top call.
-ghost use Rattle.std.specs.Prelude.{◌≡◌, ◌↔◌, false, IsTrue};
+ghost use Rattle.std.specs.Prelude.{◌≡◌, ◌↔◌, ◌⊎◌, false, IsTrue};
 ghost use Rattle.kh_io.specs.Told.{Rose};
 ghost use Rattle.khepri.specs.Words.{are_right};
 ghost use Rattle.khepri.specs.Recovery.{Recovery, Recovers};
-ghost use Rattle.khepri.specs.Store.{FilesTold, WritesLogAlone};
+ghost use Rattle.khepri.specs.Store.{FilesTold, AreSafe, WritesLogAlone};
 ghost use Rattle.khepri.specs.Run.{Runs, FindsDamage, Stood, OneScript, TellsEnding};
 
 use crate::run::run;
@@ -23,7 +23,10 @@ pub fn khepri<H: Host>(alloc: Global, words: &[String], host: &mut H) -> u8
         (record { stamp = H.stamp host.old; from = H.moment host.old; to = H.moment host.new; past = H.left_since host.old; since = H.left_since host.new })
         (H.image host.old) (H.image host.new) (H.seen host.old) (H.seen host.new) (H.left host.old) (H.left host.new) (H.given host.old) (H.given host.new)) }
 
-    ensures files { WritesLogAlone (H.seen host.old) (H.seen host.new) }
+    ensures files { WritesLogAlone (H.seen host.old) (H.seen host.new) (H.image host.old) (H.image host.new) }
+
+    // After 0 and 1 a crash leaves of each file what a read gives.
+    ensures safe { (result ≡ 0) ⊎ (result ≡ 1) → AreSafe (H.seen host.new) (H.image host.new) }
 
     // Where no call of the host fails, the status says how the run ends.
     ensures status { IsTrue (are_right words.now) → Stood (H.read_faults host.old) (H.read_faults host.new) → Stood (H.write_faults host.old) (H.write_faults host.new)

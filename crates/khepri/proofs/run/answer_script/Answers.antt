@@ -5,7 +5,7 @@ use Rattle.khepri.specs.declared.session.Stop.{Stop}
 use Rattle.khepri.specs.declared.session.Stop.TheVariants as stop
 use Rattle.khepri.specs.Store.{state_of}
 use Rattle.khepri.proofs.Stands.{stands_recovers, stands_stay}
-use Rattle.khepri.proofs.LogAlone.{none_written, files_stay, written_then, took_and_served}
+use Rattle.khepri.proofs.LogAlone.{untouched, files_stay, written_then, took_and_served}
 use Rattle.khepri.proofs.Running.{view_of, starts, took_piece, took_shorter, served_on, served_stops, take_stops, all_came, finished, finish_stops, take_rose, take_reason, serve_rose}
 use Rattle.khepri.proofs.run.answer_script.Goals as goal
 
@@ -27,7 +27,7 @@ pieces-init g c =
           let now = g.met.H.Disk.only_now c.args.host.now files s left in
           (stands_recovers c.args.store.now (host.seen c.args.host.now) (host.image c.args.host.now) c.requires.stands files now.0, now.1)));
       stands = c.requires.stands;
-      files = none_written (host.seen c.args.host.now);
+      files = untouched (host.seen c.args.host.now) (host.image c.args.host.now);
       reads = refl;
       writes = refl;
       disk = refl;
@@ -49,10 +49,7 @@ returns-in-Err-clause-ran g c =
     (stands_recovers c.pieces.store (host.seen c.pieces.host) (host.image c.pieces.host) c.pieces.invariant.stands) call.any_moment
 
 pub returns-in-Err-clause-files : goal.returns-in-Err-clause-files
-returns-in-Err-clause-files g c =
-    let host = g.H.Disk in
-    written_then (host.seen c.args.host.now) (host.seen c.pieces.host) (host.seen c.take_more.new.host) c.pieces.invariant.files
-    (files_stay (host.seen c.pieces.host) (host.seen c.take_more.new.host) (host.image c.pieces.host) (host.image c.take_more.new.host) c.in-Err.ensures.files)
+returns-in-Err-clause-files g c = written_then c.pieces.invariant.files (files_stay c.in-Err.ensures.files)
 
 -- a piece is taken: the reasons why none comes
 no_other : (s : Stop) → (s ≡ stop.ReadFault) ⊎ ((s ≡ stop.TooLong) ⊎ (s ≡ stop.NoMemory)) → (s ≡ stop.Damaged) ⊎ ((s ≡ stop.WriteFault) ⊎ (s ≡ stop.DiskFault)) → ⊥
@@ -125,8 +122,7 @@ pieces-preserved g c =
       run = served_on (view c.args.host.now) (view c.take_more.new.host) (view c.serve.new.host) c.take_more.new.input.items c.pieces.at c.in-Ok.next
           (state_of c.args.store.now) (state_of c.pieces.store) (state_of c.serve.new.store) more (rw c.as_slice.ensures.value at c.in-Ok.ensures.served) c.in-Ok.ensures.input;
       stands = c.in-Ok.ensures.stands;
-      files = took_and_served (host.seen c.args.host.now) (host.seen c.pieces.host) (host.seen c.take_more.new.host) (host.seen c.serve.new.host)
-          (host.image c.pieces.host) (host.image c.take_more.new.host) c.pieces.invariant.files call.files c.in-Ok.ensures.files;
+      files = took_and_served c.pieces.invariant.files call.files c.in-Ok.ensures.files;
       reads = c.in-Ok.ensures.read_faults ∙ call.no_fault ∙ c.pieces.invariant.reads;
       writes = c.in-Ok.ensures.no_fault ∙ call.write_faults ∙ c.pieces.invariant.writes;
       disk = c.in-Ok.ensures.no_disk_fault ∙ call.disk_faults ∙ c.pieces.invariant.disk;
@@ -145,10 +141,7 @@ returns-in-Err-serve-clause-ran g c =
     c.in-Err-serve.ensures.input
 
 pub returns-in-Err-serve-clause-files : goal.returns-in-Err-serve-clause-files
-returns-in-Err-serve-clause-files g c =
-    let host = g.H.Disk in
-    took_and_served (host.seen c.args.host.now) (host.seen c.pieces.host) (host.seen c.take_more.new.host) (host.seen c.serve.new.host)
-    (host.image c.pieces.host) (host.image c.take_more.new.host) c.pieces.invariant.files c.in-Ok-Some.ensures.files c.in-Err-serve.ensures.files
+returns-in-Err-serve-clause-files g c = took_and_served c.pieces.invariant.files c.in-Ok-Some.ensures.files c.in-Err-serve.ensures.files
 
 pub returns-in-Err-serve-clause-damage : goal.returns-in-Err-serve-clause-damage
 returns-in-Err-serve-clause-damage g c e =
@@ -202,10 +195,10 @@ returns-in-Ok-serve-clause-ran g c =
     (stands_recovers c.serve-2.new.store (host.seen c.serve-2.new.host) (host.image c.serve-2.new.host) c.in-Ok-serve.ensures.stands)
 
 pub returns-in-Ok-serve-clause-files : goal.returns-in-Ok-serve-clause-files
-returns-in-Ok-serve-clause-files g c =
-    let host = g.H.Disk in
-    took_and_served (host.seen c.args.host.now) (host.seen c.pieces.host) (host.seen c.take_more.new.host) (host.seen c.serve-2.new.host)
-    (host.image c.pieces.host) (host.image c.take_more.new.host) c.pieces.invariant.files c.in-Ok-None.ensures.files c.in-Ok-serve.ensures.files
+returns-in-Ok-serve-clause-files g c = took_and_served c.pieces.invariant.files c.in-Ok-None.ensures.files c.in-Ok-serve.ensures.files
+
+pub returns-in-Ok-serve-clause-stands : goal.returns-in-Ok-serve-clause-stands
+returns-in-Ok-serve-clause-stands g c = c.in-Ok-serve.ensures.stands
 
 pub returns-in-Ok-serve-clause-damage : goal.returns-in-Ok-serve-clause-damage
 returns-in-Ok-serve-clause-damage g c e = not_ended stop.Damaged e
@@ -233,10 +226,7 @@ returns-clause-ran g c =
     (rw (c.as_slice-2.ensures.value, none.0) at c.in-Err-serve-2.ensures.stops) c.in-Err-serve-2.ensures.input
 
 pub returns-clause-files : goal.returns-clause-files
-returns-clause-files g c =
-    let host = g.H.Disk in
-    took_and_served (host.seen c.args.host.now) (host.seen c.pieces.host) (host.seen c.take_more.new.host) (host.seen c.serve-2.new.host)
-    (host.image c.pieces.host) (host.image c.take_more.new.host) c.pieces.invariant.files c.in-Ok-None.ensures.files c.in-Err-serve-2.ensures.files
+returns-clause-files g c = took_and_served c.pieces.invariant.files c.in-Ok-None.ensures.files c.in-Err-serve-2.ensures.files
 
 pub returns-clause-damage : goal.returns-clause-damage
 returns-clause-damage g c e =

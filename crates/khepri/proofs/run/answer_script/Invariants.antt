@@ -12,7 +12,7 @@ invariant-pieces g l =
           (view_of host.left host.given host.stamp host.moment host.left_since g.met.H.Disk.stamp_counts l.host)
           l.input.items l.at (state_of l.fn.store) (state_of l.store);
       stands : Stands l.store (host.seen l.host 1) (host.image l.host 1);
-      files : WritesLogAlone (host.seen l.fn.host) (host.seen l.host);
+      files : WritesLogAlone (host.seen l.fn.host) (host.seen l.host) (host.image l.fn.host) (host.image l.host);
       reads : host.read_faults l.host ≡ host.read_faults l.fn.host;
       writes : host.write_faults l.host ≡ host.write_faults l.fn.host;
       disk : host.disk_faults l.host ≡ host.disk_faults l.fn.host;

@@ -1,14 +1,16 @@
-use Rattle.std.proofs.Common.{◌≡◌, ◌⊎◌, ◌∙◌, ℕ, List, Option, ap, refl, inl, inr, Err}
-use Rattle.std.specs.Prelude.{Result}
+use Rattle.std.proofs.Common.{◌≡◌, ◌⊎◌, ◌∙◌, ◌≤◌, ℕ, List, Option, ap, refl, inl, inr, Ok, Err, arith}
+use Rattle.std.specs.Prelude.{Result, OnOk}
 use Rattle.kh_io.specs.Told.{Extends, IsFrontOf}
 use Rattle.kh_io.proofs.Telling.{told_map}
 use Rattle.khepri.specs.declared.session.Stop.{Stop}
 use Rattle.khepri.specs.declared.session.Stop.TheVariants as stop
 use Rattle.khepri.specs.declared.store.OpenError.{OpenError}
-use Rattle.khepri.specs.Run.{stop_status, IsCutOff, damage_line}
-use Rattle.khepri.specs.Store.{Opened, state_of}
+use Rattle.khepri.specs.declared.store.OpenError.TheVariants as open_error
+use Rattle.khepri.specs.Run.{stop_status, run_status, IsCutOff, damage_line}
+use Rattle.khepri.specs.Store.{Opened, state_of, Stands}
 use Rattle.khepri.proofs.Entry.{runs_opened, runs_damaged, runs_unopened, runs_untouched, finds_damage}
-use Rattle.khepri.proofs.LogAlone.{none_written, log_begun, files_stay, written_then, written_tells}
+use Rattle.khepri.proofs.LogAlone.{untouched, files_stay, written_then, written_tells}
+use Rattle.khepri.proofs.Safe.{all_safe, log_safe}
 use Rattle.khepri.proofs.run.run.Goals as goal
 
 abbrev stopped : Stop → Result (Unit {0}) Stop
@@ -71,7 +73,7 @@ returns-in-Ok-open-clause-ran g c =
     (host.given c.args.host.now) (host.given c.open.new.host) (host.given c.answer_script.new.host) (host.stamp c.args.host.now) (host.stamp c.open.new.host)
     (host.moment c.args.host.now) (host.moment c.open.new.host) (host.moment c.answer_script.new.host)
     (host.left_since c.args.host.now) (host.left_since c.open.new.host) (host.left_since c.answer_script.new.host)
-    opened.recovered (written_tells (host.seen c.open.new.host) (host.seen c.answer_script.new.host) ran.files) opened.stamp opened.any_moment opened.input opened.sink ran.ran
+    opened.recovered (written_tells ran.files) opened.stamp opened.any_moment opened.input opened.sink ran.ran
 
 pub returns-in-Err-Damaged-clause-ran : goal.returns-in-Err-Damaged-clause-ran
 returns-in-Err-Damaged-clause-ran g c =
@@ -137,23 +139,44 @@ returns-clause-ran g c =
     opened.reads opened.any_moment opened.input opened.sink (inr refl)
 
 pub returns-in_default-clause-files : goal.returns-in_default-clause-files
-returns-in_default-clause-files g c = let host = g.H.Disk in none_written (host.seen c.args.host.now)
+returns-in_default-clause-files g c = let host = g.H.Disk in untouched (host.seen c.args.host.now) (host.image c.args.host.now)
 
 pub returns-in-Ok-open-clause-files : goal.returns-in-Ok-open-clause-files
-returns-in-Ok-open-clause-files g c =
-    let host = g.H.Disk in
-    written_then (host.seen c.args.host.now) (host.seen c.open.new.host) (host.seen c.answer_script.new.host)
-    (log_begun (host.seen c.args.host.now) (host.seen c.open.new.host) c.in-Ok-open.ensures.reads) c.answer_script.ensures.files
+returns-in-Ok-open-clause-files g c = written_then c.in-Ok-open.ensures.files c.answer_script.ensures.files
 
 pub returns-in-Err-Damaged-clause-files : goal.returns-in-Err-Damaged-clause-files
-returns-in-Err-Damaged-clause-files g c =
+returns-in-Err-Damaged-clause-files g c = written_then c.in-Err-Damaged.ensures.files (files_stay c.report.ensures.files)
+
+stops_above_0 : (s : Stop) → 1 ≤ stop_status s
+stops_above_0 stop.Damaged = omega arith
+stops_above_0 stop.Syntax = omega arith
+stops_above_0 stop.ReadFault = omega arith
+stops_above_0 stop.WriteFault = omega arith
+stops_above_0 stop.DiskFault = omega arith
+stops_above_0 stop.TooLong = omega arith
+stops_above_0 stop.NoMemory = omega arith
+
+-- a run that ended at 0 or at 1 was done or met damage
+done_or_damaged : {P : Type 0} (r : Result (Unit {0}) Stop) → (run_status r ≡ 0) ⊎ (run_status r ≡ 1) → OnOk r P → (r ≡ stopped stop.Damaged → P) → P
+done_or_damaged (Ok done) status at_ok damaged = at_ok
+done_or_damaged (Err s) (inl e) at_ok damaged = absurd (omega (arith, e, stops_above_0 s))
+done_or_damaged (Err s) (inr e) at_ok damaged = damaged (ap stopped (is_damage s e))
+
+-- no disk fault was met where the store was opened, or the files are damaged
+opened_whole : (store : Opened) → Ok store ≡ unopened open_error.DiskFault → ⊥
+opened_whole store e = cc
+
+damaged_whole : {x : OpenError} {file offset : ℕ} → x ≡ open_error.Damaged file offset → unopened x ≡ unopened open_error.DiskFault → ⊥
+damaged_whole is e = cc
+
+pub returns-in-Ok-open-clause-safe : goal.returns-in-Ok-open-clause-safe
+returns-in-Ok-open-clause-safe g c status =
     let host = g.H.Disk in
-    written_then (host.seen c.args.host.now) (host.seen c.open.new.host) (host.seen c.report.new.host)
-    (log_begun (host.seen c.args.host.now) (host.seen c.open.new.host) c.in-Err-Damaged.ensures.reads)
-    (files_stay (host.seen c.open.new.host) (host.seen c.report.new.host) (host.image c.open.new.host) (host.image c.report.new.host) c.report.ensures.files)
+    let ran = c.answer_script.ensures in
+    let stands = done_or_damaged {P = Stands c.answer_script.new.store (host.seen c.answer_script.new.host 1) (host.image c.answer_script.new.host 1)}
+    c.answer_script.result status ran.stands (λ e. absurd (ran.damage e)) in
+    log_safe (c.in-Ok-open.ensures.safe (opened_whole c.in-Ok-open.store)) ran.files stands.safe (g.met.H.Disk.untold_is_not_left c.answer_script.new.host)
 
-pub returns-in-Err-DiskFault-clause-files : goal.returns-in-Err-DiskFault-clause-files
-returns-in-Err-DiskFault-clause-files g c = let host = g.H.Disk in log_begun (host.seen c.args.host.now) (host.seen c.open.new.host) c.in-Err-DiskFault.ensures.reads
-
-pub returns-clause-files : goal.returns-clause-files
-returns-clause-files g c = let host = g.H.Disk in log_begun (host.seen c.args.host.now) (host.seen c.open.new.host) c.in-Err-NoMemory.ensures.reads
+pub returns-in-Err-Damaged-clause-safe : goal.returns-in-Err-Damaged-clause-safe
+returns-in-Err-Damaged-clause-safe g c status =
+    all_safe (c.in-Err-Damaged.ensures.safe (damaged_whole c.in-Err-Damaged.field-0-is)) c.report.ensures.files (g.met.H.Disk.untold_is_not_left c.report.new.host)

@@ -23,10 +23,7 @@ returns-in-Ok-give_all-clause-any_moment g c =
     c.in-Ok.ensures.stands c.in-Ok.ensures.after c.execute.ensures.any_moment c.give_all.ensures.any_moment
 
 pub returns-in-Ok-give_all-clause-files : goal.returns-in-Ok-give_all-clause-files
-returns-in-Ok-give_all-clause-files g c =
-    let host = g.H.Disk in
-    written_then (host.seen c.args.host.now) (host.seen c.execute.new.host) (host.seen c.give_all.new.host) c.execute.ensures.files
-    (files_stay (host.seen c.execute.new.host) (host.seen c.give_all.new.host) (host.image c.execute.new.host) (host.image c.give_all.new.host) c.give_all.ensures.files)
+returns-in-Ok-give_all-clause-files g c = written_then c.execute.ensures.files (files_stay c.give_all.ensures.files)
 
 pub returns-clause-front : goal.returns-clause-front
 returns-clause-front g c =
@@ -41,7 +38,4 @@ returns-clause-any_moment g c =
     c.in-Ok.ensures.stands c.in-Ok.ensures.after c.execute.ensures.any_moment c.give_all.ensures.any_moment
 
 pub returns-clause-files : goal.returns-clause-files
-returns-clause-files g c =
-    let host = g.H.Disk in
-    written_then (host.seen c.args.host.now) (host.seen c.execute.new.host) (host.seen c.give_all.new.host) c.execute.ensures.files
-    (files_stay (host.seen c.execute.new.host) (host.seen c.give_all.new.host) (host.image c.execute.new.host) (host.image c.give_all.new.host) c.give_all.ensures.files)
+returns-clause-files g c = written_then c.execute.ensures.files (files_stay c.give_all.ensures.files)

@@ -4,7 +4,7 @@ use Rattle.kh_io.proofs.Telling.{kept_both}
 use Rattle.khepri.specs.Store.{state_of}
 use Rattle.kh_log.proofs.Walk.{kept_same}
 use Rattle.khepri.proofs.Stands.{stands_recovers}
-use Rattle.khepri.proofs.LogAlone.{none_written, written_then}
+use Rattle.khepri.proofs.LogAlone.{untouched, written_then}
 use Rattle.khepri.proofs.Admitted.{line_is_command}
 use Rattle.khepri.proofs.Lines.{counts, nothing_served, one_line, no_reply, to_fault, to_cut, to_front, some_left, rests_at_end, rests_cut}
 use Rattle.khepri.proofs.session.serve.Goals as goal
@@ -18,7 +18,7 @@ lines-init g c =
           let now = g.met.H.Disk.only_now c.args.host.now files s left in
           (stands_recovers c.args.store.now (host.seen c.args.host.now) (host.image c.args.host.now) c.requires.stands files now.0, now.1));
       stands = c.requires.stands;
-      files = none_written (host.seen c.args.host.now);
+      files = untouched (host.seen c.args.host.now) (host.image c.args.host.now);
       no_fault = refl;
       no_disk_fault = refl;
       input = kept_same (host.left c.args.host.now);
@@ -57,7 +57,7 @@ lines-preserved g c =
           (counts _ _ (g.met.H.Disk.stamp_counts c.args.host.now)) (counts _ _ (g.met.H.Disk.stamp_counts c.lines.host)) (counts _ _ (g.met.H.Disk.stamp_counts c.answer.new.host))
           before.given line.0 call.given call.any_moment call.after;
       stands = call.stands;
-      files = written_then (host.seen c.args.host.now) (host.seen c.lines.host) (host.seen c.answer.new.host) before.files call.files;
+      files = written_then before.files call.files;
       no_fault = call.no_fault ∙ before.no_fault;
       no_disk_fault = call.no_disk_fault ∙ before.no_disk_fault;
       input = kept_both (host.left c.args.host.now) (host.left c.lines.host) (host.left c.answer.new.host) before.input call.input;
@@ -104,6 +104,4 @@ returns-in-Err-clause-stops g c =
     (host.given c.args.host.now) (host.given c.lines.host) c.lines.invariant.given
 
 pub returns-in-Err-answer-clause-files : goal.returns-in-Err-answer-clause-files
-returns-in-Err-answer-clause-files g c =
-    let host = g.H.Disk in
-    written_then (host.seen c.args.host.now) (host.seen c.lines.host) (host.seen c.answer.new.host) c.lines.invariant.files c.in-Err-answer.ensures.files
+returns-in-Err-answer-clause-files g c = written_then c.lines.invariant.files c.in-Err-answer.ensures.files

@@ -129,13 +129,7 @@ returns-in-Ok-clause-stands g c =
     (host.image c.args.host.now 1) (host.image c.append.new.host 1) bytes c.requires.stands appended safe left state replays
 
 pub returns-in-Ok-clause-files : goal.returns-in-Ok-clause-files
-returns-in-Ok-clause-files g c =
-    let host = g.H.Disk in
-    log_written c.self.inside.log.file (host.seen c.args.host.now) (host.seen c.append.new.host) c.self.invariant.0 c.append.ensures.told
-    (λ file lt other. (c.append.ensures.others file lt other).read)
+returns-in-Ok-clause-files g c = log_written c.self.invariant.0 c.append.ensures.told c.append.ensures.others
 
 pub returns-clause-files : goal.returns-clause-files
-returns-clause-files g c =
-    let host = g.H.Disk in
-    log_written c.self.inside.log.file (host.seen c.args.host.now) (host.seen c.append.new.host) c.self.invariant.0 c.append.ensures.told
-    (λ file lt other. (c.append.ensures.others file lt other).read)
+returns-clause-files g c = log_written c.self.invariant.0 c.append.ensures.told c.append.ensures.others

@@ -6,8 +6,9 @@ use Rattle.kh_log.proofs.Walk.{stays_both}
 use Rattle.khepri.specs.State.{empty}
 use Rattle.khepri.specs.Recovery.{Recovered, Damaged, Replays, ReplaysUnless}
 use Rattle.khepri.specs.Store.{Opening}
-use Rattle.khepri.proofs.Safe.{still_safe}
-use Rattle.khepri.proofs.Open.{begins, begun_left, told_back, files_told, content_before, lacking_before, replays_before, lacks_at, lacks_recovers, closed_there, there_still}
+use Rattle.khepri.proofs.Safe.{still_safe, all_safe, log_safe}
+use Rattle.khepri.proofs.Open.{begins, begun_left, told_back, files_told, content_before, lacking_before, replays_before, lacks_at, lacks_recovers, closed_there, there_still, begun_between}
+use Rattle.khepri.proofs.LogAlone.{none_written, files_stay, log_begun, written_then}
 use Rattle.khepri.proofs.store.Store.open.Goals as goal
 
 -- while a log is begun
@@ -108,12 +109,69 @@ returns-clause-stands g c =
     let one : 1 < 4 = omega arith in
     let opened = c.open.ensures.files 1 one in
     let replayed = c.replay.ensures.files 1 one in
+    let stay = stays_both opened replayed in
     record {
-      safe = still_safe (c.in_ok-begin_log.ensures.safe) (stays_both opened replayed)
-          (λ bytes. g.met.H.Disk.untold_is_not_left c.replay.new.host 1 bytes one);
+      safe = still_safe c.in_ok-begin_log.ensures.safe stay.read stay.only (λ bytes. g.met.H.Disk.untold_is_not_left c.replay.new.host 1 bytes one);
       found = c.replay.ensures.holds;
       closed = closed_there _ _ _ _ c.in_ok-log.log c.replay.new.log.last c.in_ok-begin_log.ensures.begun opened.read c.in_ok-log.ensures.found
           c.in_ok-log.ensures.closed replayed.read c.replay.ensures.last;
       recovers = there_still (λ bytes. Replays empty (records_of bytes) (Recovered (record { nodes = c.in_ok-tree.tree; span = c.replay.new.log.last }))) _ _
           replayed.read c.in_ok-tree.ensures.recovered;
     }
+
+-- file 1 alone is written
+pub returns-in_err-sync_all-clause-files : goal.returns-in_err-sync_all-clause-files
+returns-in_err-sync_all-clause-files g c = none_written c.sync_all.ensures.reads c.sync_all.ensures.no_new_images
+
+pub returns-in_err-begin_log-clause-files : goal.returns-in_err-begin_log-clause-files
+returns-in_err-begin_log-clause-files g c =
+    written_then (none_written c.sync_all.ensures.reads c.sync_all.ensures.no_new_images) (log_begun c.begin_log.ensures.reads c.begin_log.ensures.others)
+
+pub returns-in_err-log-clause-files : goal.returns-in_err-log-clause-files
+returns-in_err-log-clause-files g c =
+    written_then (none_written c.sync_all.ensures.reads c.sync_all.ensures.no_new_images)
+    (written_then (log_begun c.begin_log.ensures.reads c.begin_log.ensures.others) (files_stay c.open.ensures.files))
+
+pub returns-in_err-tree-clause-files : goal.returns-in_err-tree-clause-files
+returns-in_err-tree-clause-files g c =
+    written_then (none_written c.sync_all.ensures.reads c.sync_all.ensures.no_new_images)
+    (written_then (log_begun c.begin_log.ensures.reads c.begin_log.ensures.others) (written_then (files_stay c.open.ensures.files) (files_stay c.replay.ensures.files)))
+
+pub returns-clause-files : goal.returns-clause-files
+returns-clause-files g c =
+    written_then (none_written c.sync_all.ensures.reads c.sync_all.ensures.no_new_images)
+    (written_then (log_begun c.begin_log.ensures.reads c.begin_log.ensures.others) (written_then (files_stay c.open.ensures.files) (files_stay c.replay.ensures.files)))
+
+-- all files are safe once a log is begun
+pub returns-in_err-log-clause-safe : goal.returns-in_err-log-clause-safe
+returns-in_err-log-clause-safe g c = λ no_fault.
+    let untold = g.met.H.Disk.untold_is_not_left in
+    let begun = log_safe c.in_ok-sync_all.ensures.safe (log_begun c.begin_log.ensures.reads c.begin_log.ensures.others) c.in_ok-begin_log.ensures.safe (untold c.begin_log.new.host) in
+    all_safe begun c.open.ensures.files (untold c.open.new.host)
+
+pub returns-in_err-tree-clause-safe : goal.returns-in_err-tree-clause-safe
+returns-in_err-tree-clause-safe g c = λ no_fault.
+    let untold = g.met.H.Disk.untold_is_not_left in
+    let begun = log_safe c.in_ok-sync_all.ensures.safe (log_begun c.begin_log.ensures.reads c.begin_log.ensures.others) c.in_ok-begin_log.ensures.safe (untold c.begin_log.new.host) in
+    all_safe (all_safe begun c.open.ensures.files (untold c.open.new.host)) c.replay.ensures.files (untold c.replay.new.host)
+
+pub returns-clause-safe : goal.returns-clause-safe
+returns-clause-safe g c = λ no_fault.
+    let untold = g.met.H.Disk.untold_is_not_left in
+    let begun = log_safe c.in_ok-sync_all.ensures.safe (log_begun c.begin_log.ensures.reads c.begin_log.ensures.others) c.in_ok-begin_log.ensures.safe (untold c.begin_log.new.host) in
+    all_safe (all_safe begun c.open.ensures.files (untold c.open.new.host)) c.replay.ensures.files (untold c.replay.new.host)
+
+-- and a read of file 1 gives a log
+pub returns-in_err-log-clause-begun : goal.returns-in_err-log-clause-begun
+returns-in_err-log-clause-begun g c = λ no_fault.
+    begun_between _ _ _ _ (c.sync_all.ensures.reads 1 (omega arith)) c.in_ok-begin_log.ensures.begun (c.open.ensures.files 1 (omega arith)).read
+
+pub returns-in_err-tree-clause-begun : goal.returns-in_err-tree-clause-begun
+returns-in_err-tree-clause-begun g c = λ no_fault.
+    begun_between _ _ _ _ (c.sync_all.ensures.reads 1 (omega arith)) c.in_ok-begin_log.ensures.begun
+    (stays_both (c.open.ensures.files 1 (omega arith)) (c.replay.ensures.files 1 (omega arith))).read
+
+pub returns-clause-begun : goal.returns-clause-begun
+returns-clause-begun g c = λ no_fault.
+    begun_between _ _ _ _ (c.sync_all.ensures.reads 1 (omega arith)) c.in_ok-begin_log.ensures.begun
+    (stays_both (c.open.ensures.files 1 (omega arith)) (c.replay.ensures.files 1 (omega arith))).read
