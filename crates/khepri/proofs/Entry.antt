@@ -85,6 +85,7 @@ ran_opened first status seen image image' files input rest given stamp m0 m1 m2 
   syntax = ran.syntax;
   too_long = ran.too_long;
   read_fault = ran.read_fault;
+  disk_fault = ran.disk_fault;
   crash = both (weakened opening (opening_keeps seen image stamp files first ran.forms are recovers)) ran.crash (λ left s is. elim is [
     | inl never ↦ absurd never
     | inr keeps ↦ inr keeps
@@ -204,6 +205,7 @@ ran_nothing first status seen image image' files input stamp m0 m1 past since ar
       syntax = λ e. absurd (elim why [ inl f ↦ omega arith | inr f ↦ omega arith ]);
       too_long = λ e. absurd (elim why [ inl f ↦ omega arith | inr f ↦ omega arith ]);
       read_fault = λ e. absurd (elim why [ inl f ↦ omega arith | inr f ↦ omega arith ]);
+      disk_fault = λ e. inl (refl, refl);
       crash = weakened opening (opening_keeps seen image stamp files first script.0 are recovers);
       last = λ e. absurd (elim why [ inl f ↦ omega arith | inr f ↦ omega arith ]);
     }

@@ -1,9 +1,9 @@
 -- Answering line after line, as a loop does.
-use Rattle.std.proofs.Common.{◌≡◌, ◌≢◌, ℕ, ◌<◌, Bool, true, false, List, [], ◌∷◌, ◌++◌, length, drop, Option, Some, None, Ok, Err, refl, sym, ap, ◌∙◌, append_assoc, length-append, arith}
-use Rattle.std.specs.Prelude.{IfSome}
+use Rattle.std.proofs.Common.{◌≡◌, ◌≢◌, ℕ, ◌+◌, ◌<◌, ◌≤◌, Bool, true, false, List, [], ◌∷◌, ◌++◌, length, drop, Option, Some, None, Ok, Err, refl, sym, ap, subst, ◌∙◌, append_assoc, length-append, arith}
+use Rattle.std.specs.Prelude.{IfSome, IsTrue, Result}
 use Rattle.std.proofs.lemmas.List.{append-nil, length-drop}
 use Rattle.kh_io.specs.declared.files.Files.{Files}
-use Rattle.kh_io.specs.Told.{Told, Extends, IsFrontOf}
+use Rattle.kh_io.specs.Told.{Told, Kept, Extends, IsFrontOf}
 use Rattle.kh_io.specs.Disk.{LeavesOnly}
 use Rattle.kh_io.proofs.Moments.{started, both, weakened}
 use Rattle.kh_io.proofs.Telling.{told_map}
@@ -12,12 +12,12 @@ use Rattle.kh_read.specs.declared.form.Form.{Form}
 use Rattle.kh_read.specs.Reading.{Cut, Fault}
 use Rattle.khepri.specs.declared.session.Stop.{Stop}
 use Rattle.khepri.specs.declared.session.Stop.TheVariants as stop
-use Rattle.khepri.specs.State.{State, store_reply, store_after, state_after, text_of}
+use Rattle.khepri.specs.State.{State, store_logs, store_reply, store_after, state_after, text_of}
 use Rattle.khepri.specs.Recovery.{Recovered, Recovers}
 use Rattle.khepri.specs.Output.{GivesAll}
 use Rattle.khepri.specs.Script.{line_at, all_read, Script, ends, cut}
 use Rattle.khepri.specs.Session.{Answering}
-use Rattle.khepri.specs.Serving.{AnswerStops, Span, Served, ServedToFault, ServedPart, ServeStops}
+use Rattle.khepri.specs.Serving.{AnswerStops, Span, KeepsPrefix, Served, ServedToFault, ServedPart, ServedToDoubt, ServeStops}
 use Rattle.khepri.proofs.Scripts.{reads_starts, reads_on, reads_faulty, reads_cut, reads_begins}
 use Rattle.khepri.proofs.Replies.{text_of-append, state_after-append, prefix_more, prefix_whole, answering_is_prefix}
 
@@ -75,6 +75,15 @@ nothing_served is_end bytes state sink stamp moment since now = told_same _ sink
   },
 ))
 
+-- what a crash leaves over a line more
+crash_on : (old mid : State) (forms : List Form) (form : Form) (stamp before after m0 : ℕ) (past : ℕ → Files → ℕ → Type 0) {m1 m2 : ℕ} {p1 p2 : ℕ → Files → ℕ → Type 0}
+    → mid ≡ state_after forms old → before ≤ stamp + length (text_of forms old) → after ≤ stamp + length (text_of (forms ++ form ∷ []) old)
+    → KeepsPrefix (span_to stamp m0 m1 past p1) old forms → LeavesOnly m1 m2 p1 p2 (Answering form mid before after)
+    → KeepsPrefix (span_to stamp m0 m2 past p2) old (forms ++ form ∷ [])
+crash_on old mid forms form stamp before after m0 past is taken taken_now so_far crash =
+    both (weakened so_far (λ files s. prefix_more old forms (form ∷ []) stamp files s)) crash
+    (answering_is_prefix old mid forms form stamp before after is taken taken_now)
+
 -- one line more
 pub one_line : (is_end : Bool) (bytes left rest : List ℕ) (old mid new : State) (form : Form) (sink now later : Option (List ℕ)) (stamp before after m0 : ℕ)
     (past : ℕ → Files → ℕ → Type 0) {m1 m2 : ℕ} {p1 p2 : ℕ → Files → ℕ → Type 0} → Counts sink stamp → Counts now before → Counts later after
@@ -94,10 +103,10 @@ one_line is_end bytes left rest old mid new form sink now later stamp before aft
         reads = reads_on is_end bytes left served.forms form rest served.reads line;
         text = sym text;
         state = is ∙ ap (store_after form) served.state ∙ sym (state_after-append served.forms (form ∷ []) old);
-        crash = both (weakened served.crash (λ files s. prefix_more old served.forms (form ∷ []) stamp files s)) crash
-            (answering_is_prefix old mid served.forms form stamp before after served.state
+        crash = crash_on old mid served.forms form stamp before after m0 past served.state
             (omega (arith, k, l, ap length p.1, length-append x p.0, ap length served.text))
-            (omega (arith, k, m, ap length q, ap length p.1, length-append x p.0, length-append y reply, ap length text, length-append p.0 reply)));
+            (omega (arith, k, m, ap length q, ap length p.1, length-append x p.0, length-append y reply, ap length text, length-append p.0 reply))
+            served.crash crash;
       },
     ))
 
@@ -119,8 +128,7 @@ front_of_line is_end bytes left rest old mid form sink now later stamp before af
         forms = served.forms ++ form ∷ [];
         reads = reads_begins is_end bytes rest (served.forms ++ form ∷ []) (reads_on is_end bytes left served.forms form rest served.reads line);
         front = (q.2.0, text ∙ ap (λ (t : List ℕ). p.0 ++ t) q.2.1 ∙ sym (append_assoc p.0 q.0 q.2.0));
-        crash = both (weakened served.crash (λ files s. prefix_more old served.forms (form ∷ []) stamp files s)) crash
-            (answering_is_prefix old mid served.forms form stamp before after served.state
+        crash = crash_on old mid served.forms form stamp before after m0 past served.state
             (omega (arith, k, l, ap length p.1, length-append x p.0, ap length served.text))
             (omega (
               arith,
@@ -134,26 +142,67 @@ front_of_line is_end bytes left rest old mid form sink now later stamp before af
               length-append p.0 reply,
               ap length q.2.1,
               length-append q.0 q.2.0,
-            )));
+            ))
+            served.crash crash;
       },
     ))
+
+-- one line more is in doubt
+line_in_doubt : (is_end : Bool) (bytes left rest : List ℕ) (old mid : State) (form : Form) (sink now later : Option (List ℕ)) (stamp before after m0 : ℕ)
+    (past : ℕ → Files → ℕ → Type 0) {m1 m2 : ℕ} {p1 p2 : ℕ → Files → ℕ → Type 0} → Counts sink stamp → Counts now before → Counts later after
+    → SoFar is_end bytes left old mid (span_to stamp m0 m1 past p1) sink now → line_at is_end left ≡ Ok (form, rest)
+    → Kept now later → IsTrue (store_logs form mid) → LeavesOnly m1 m2 p1 p2 (Answering form mid before after)
+    → Extends sink later (ServedToDoubt is_end bytes old (span_to stamp m0 m2 past p2))
+line_in_doubt is_end bytes left rest old mid form sink now later stamp before after m0 past at_first at_now at_later so_far line kept logged crash =
+    told_counted sink now later stamp before after at_first at_now at_later so_far kept (λ x y z k l m p same.
+    let served = p.2 in (
+      p.0,
+      same ∙ p.1,
+      record {
+        answered = served.forms;
+        form = form;
+        reads = reads_begins is_end bytes rest (served.forms ++ form ∷ []) (reads_on is_end bytes left served.forms form rest served.reads line);
+        text = served.text;
+        logged = subst (λ (t : State). IsTrue (store_logs form t)) served.state logged;
+        crash = crash_on old mid served.forms form stamp before after m0 past served.state
+            (omega (arith, k, l, ap length p.1, length-append x p.0, ap length served.text))
+            (omega (
+              arith,
+              k,
+              m,
+              ap length same,
+              ap length p.1,
+              length-append x p.0,
+              ap length served.text,
+              ap length (text_of-append served.forms (form ∷ []) old),
+              length-append (text_of served.forms old) (text_of (form ∷ []) (state_after served.forms old)),
+            ))
+            served.crash crash;
+      },
+    ))
+
+-- what answering a form gives where it stops so
+abbrev pub unanswered : Stop → Result (Unit {0}) Stop
+unanswered s = Err s
 
 pub no_reply : (is_end : Bool) (bytes left rest : List ℕ) (old mid : State) (form : Form) (sink now later : Option (List ℕ)) (stamp before after m0 : ℕ)
     (past : ℕ → Files → ℕ → Type 0) {m1 m2 : ℕ} {p1 p2 : ℕ → Files → ℕ → Type 0} (s : Stop) {sink_rose disk_rose sink_rose' disk_rose' : Type 0}
     → Counts sink stamp → Counts now before → Counts later after
     → SoFar is_end bytes left old mid (span_to stamp m0 m1 past p1) sink now → line_at is_end left ≡ Ok (form, rest)
-    → Extends now later (λ more. IsFrontOf more (shown_line (store_reply form mid))) → LeavesOnly m1 m2 p1 p2 (Answering form mid before after)
+    → Extends now later (λ more. IsFrontOf more (shown_line (store_reply form mid)))
+    → (unanswered s ≡ unanswered stop.DiskFault → Kept now later × IsTrue (store_logs form mid)) → LeavesOnly m1 m2 p1 p2 (Answering form mid before after)
     → AnswerStops s sink_rose disk_rose → (sink_rose → sink_rose') → (disk_rose → disk_rose')
     → ServeStops s is_end bytes old (span_to stamp m0 m2 past p2) sink later sink_rose' disk_rose'
-no_reply is_end bytes left rest old mid form sink now later stamp before after m0 past stop.Syntax k l m so_far line given crash why by_sink by_disk = absurd why
-no_reply is_end bytes left rest old mid form sink now later stamp before after m0 past stop.Damaged k l m so_far line given crash why by_sink by_disk = absurd why
-no_reply is_end bytes left rest old mid form sink now later stamp before after m0 past stop.ReadFault k l m so_far line given crash why by_sink by_disk = absurd why
-no_reply is_end bytes left rest old mid form sink now later stamp before after m0 past stop.TooLong k l m so_far line given crash why by_sink by_disk = absurd why
-no_reply is_end bytes left rest old mid form sink now later stamp before after m0 past stop.WriteFault k l m so_far line given crash why by_sink by_disk =
+no_reply is_end bytes left rest old mid form sink now later stamp before after m0 past stop.Syntax k l m so_far line given in_doubt crash why by_sink by_disk = absurd why
+no_reply is_end bytes left rest old mid form sink now later stamp before after m0 past stop.Damaged k l m so_far line given in_doubt crash why by_sink by_disk = absurd why
+no_reply is_end bytes left rest old mid form sink now later stamp before after m0 past stop.ReadFault k l m so_far line given in_doubt crash why by_sink by_disk = absurd why
+no_reply is_end bytes left rest old mid form sink now later stamp before after m0 past stop.TooLong k l m so_far line given in_doubt crash why by_sink by_disk = absurd why
+no_reply is_end bytes left rest old mid form sink now later stamp before after m0 past stop.WriteFault k l m so_far line given in_doubt crash why by_sink by_disk =
     (front_of_line is_end bytes left rest old mid form sink now later stamp before after m0 past k l m so_far line given crash, by_sink why)
-no_reply is_end bytes left rest old mid form sink now later stamp before after m0 past stop.DiskFault k l m so_far line given crash why by_sink by_disk =
-    (front_of_line is_end bytes left rest old mid form sink now later stamp before after m0 past k l m so_far line given crash, by_disk why)
-no_reply is_end bytes left rest old mid form sink now later stamp before after m0 past stop.NoMemory k l m so_far line given crash why by_sink by_disk =
+no_reply is_end bytes left rest old mid form sink now later stamp before after m0 past stop.DiskFault k l m so_far line given in_doubt crash why by_sink by_disk =
+    let is = in_doubt refl in
+    (line_in_doubt is_end bytes left rest old mid form sink now later stamp before after m0 past k l m so_far line is.0 is.1 crash, by_disk why)
+no_reply is_end bytes left rest old mid form sink now later stamp before after m0 past stop.NoMemory k l m so_far line given in_doubt crash why by_sink by_disk =
     front_of_line is_end bytes left rest old mid form sink now later stamp before after m0 past k l m so_far line given crash
 
 -- bytes that are no form

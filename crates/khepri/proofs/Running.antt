@@ -1,5 +1,6 @@
 -- A run over an open store, from the first piece of the input to its end.
-use Rattle.std.proofs.Common.{◌≡◌, ℕ, ◌+◌, ◌-◌, ◌<◌, ◌≤◌, Bool, true, false, leb, List, [], ◌++◌, length, take, drop, Option, Some, None, refl, sym, ap, subst, ◌∙◌, append_assoc, inl, inr, ◌⊎◌, arith}
+use Rattle.std.proofs.Common.{◌≡◌, ℕ, ◌+◌, ◌-◌, ◌<◌, ◌≤◌, Bool, true, false, leb, List, [], ◌∷◌, ◌++◌, length, take, drop, Option, Some, None, refl, sym, ap, subst, ◌∙◌, append_assoc, inl, inr, ◌⊎◌, arith}
+use Rattle.std.specs.Prelude.{IsTrue}
 use Rattle.std.proofs.lemmas.Bool.{le-leb, lt-leb}
 use Rattle.std.proofs.Math.Seq.{take-append-add}
 use Rattle.std.proofs.lemmas.List.{append-nil, length-append, take_all, take_at, drop-append-le}
@@ -12,11 +13,11 @@ use Rattle.kh_read.specs.declared.form.Form.{Form}
 use Rattle.khepri.specs.declared.session.Stop.{Stop}
 use Rattle.khepri.specs.declared.session.Stop.TheVariants as stop
 use Rattle.khepri.specs.declared.input.Piece.TheVariants as piece
-use Rattle.khepri.specs.State.{State, state_after, text_of}
+use Rattle.khepri.specs.State.{State, store_logs, state_after, text_of}
 use Rattle.khepri.specs.Recovery.{Recovered, Recovers}
 use Rattle.khepri.specs.Script.{Ending, AtEnd, AtFault, Unfinished, Script, Reads, EndsReading, BeginsReading, script_limit, WholeScript, ends}
 use Rattle.khepri.specs.Session.{Untouched, KeepsAnswered}
-use Rattle.khepri.specs.Serving.{Span, KeepsPrefix, Served, ServedToFault, ServedPart, ServesTo, ServeStops}
+use Rattle.khepri.specs.Serving.{Span, KeepsPrefix, Served, ServedToFault, ServedPart, ServedToDoubt, ServesTo, ServeStops}
 use Rattle.khepri.specs.Input.{TakesMore, TakeStops}
 use Rattle.khepri.specs.Run.{stop_status, Never, Ran, Ends}
 use Rattle.khepri.proofs.Scripts.{reads_then, ends_then, begins_then, reads_more, reads_begins}
@@ -212,6 +213,10 @@ kept_behind first state forms others v w x is taken before behind =
     both (weakened before (λ files s. prefix_more first forms others v.stamp files s)) behind
     (λ files s. prefix_behind first state forms others v.stamp w.stamp files s is taken)
 
+-- the state after two spans
+state_behind : (first state : State) (forms others : List Form) → state ≡ state_after forms first → state_after others state ≡ state_after (forms ++ others) first
+state_behind first state forms others is = ap (state_after others) is ∙ sym (state_after-append forms others first)
+
 -- the text of two spans
 text_behind : (first state : State) (forms others : List Form) (given more : List ℕ) → state ≡ state_after forms first → given ≡ text_of forms first
     → more ≡ text_of others state → given ++ more ≡ text_of (forms ++ others) first
@@ -226,7 +231,7 @@ both_served is_end input rest last first state new v w x given more served taken
   forms = served.forms ++ next.forms;
   reads = reads_then is_end input rest last served.forms next.forms served.reads next.reads;
   text = text_behind first state served.forms next.forms given more served.state served.text next.text;
-  state = next.state ∙ ap (state_after next.forms) served.state ∙ sym (state_after-append served.forms next.forms first);
+  state = next.state ∙ state_behind first state served.forms next.forms served.state;
   crash = kept_behind first state served.forms next.forms v w x served.state taken served.crash next.crash;
 }
 
@@ -253,6 +258,23 @@ both_part is_end input rest first state v w x given more served taken next = rec
   );
   crash = kept_behind first state served.forms next.forms v w x served.state taken served.crash next.crash;
 }
+
+both_to_doubt : (is_end : Bool) (input rest : List ℕ) (first state : State) (v w x : View) (given more : List ℕ)
+    (served : Served false input rest first state (over v w) given) → w.stamp ≤ v.stamp + length (text_of served.forms first)
+    → ServedToDoubt is_end rest state (over w x) more → ServedToDoubt is_end input first (over v x) (given ++ more)
+both_to_doubt is_end input rest first state v w x given more served taken next =
+    let same : served.forms ++ (next.answered ++ next.form ∷ []) ≡ (served.forms ++ next.answered) ++ next.form ∷ [] =
+    sym (append_assoc served.forms next.answered (next.form ∷ [])) in
+    record {
+      answered = served.forms ++ next.answered;
+      form = next.form;
+      reads = subst (BeginsReading is_end input) same
+          (begins_then is_end input rest served.forms (next.answered ++ next.form ∷ []) served.reads next.reads);
+      text = text_behind first state served.forms next.answered given more served.state served.text next.text;
+      logged = subst (λ (t : State). IsTrue (store_logs next.form t)) (state_behind first state served.forms next.answered served.state) next.logged;
+      crash = subst (KeepsPrefix (over v x) first) same
+          (kept_behind first state served.forms (next.answered ++ next.form ∷ []) v w x served.state taken served.crash next.crash);
+    }
 
 -- the lines of a piece were answered
 pub served_on : (v w x : View) (input : List ℕ) (at next : ℕ) (first state new : State) → HasMore v w input at first state
@@ -285,35 +307,48 @@ more_of_text first forms others given front = (
       ∙ append_assoc given front.0 (text_of others (state_after forms first)),
 )
 
--- a status that says that the sink or the disk failed, or that memory ran out
-abbrev IsCutLate : ℕ → Type 0
-IsCutLate status = (status ≡ 4) ⊎ ((status ≡ 5) ⊎ (status ≡ 6))
-
-late_is : (status n : ℕ) → IsCutLate status → n < 4 → status ≡ n → ⊥
-late_is status n (inl is) small same = omega arith
-late_is status n (inr (inl is)) small same = omega arith
-late_is status n (inr (inr is)) small same = omega arith
-
-late_not_nine : (status : ℕ) → IsCutLate status → status ≡ 9 → ⊥
-late_not_nine status (inl is) same = omega arith
-late_not_nine status (inr (inl is)) same = omega arith
-late_not_nine status (inr (inr is)) same = omega arith
-
--- a run that was cut off while it answered
+-- a run that was cut off while it answered: the sink failed, or memory ran out
 ran_part : (status : ℕ) (first : State) (span : Span) (image : ℕ → List ℕ → Type 0) (all rest given : List ℕ) (forms : List Form) → WholeBegins all forms
-    → IsFrontOf given (text_of forms first) → KeepsPrefix span first forms → IsCutLate status → Ran first status Never span image all rest given
-ran_part status first span image all rest given forms whole front crash late = record {
+    → IsFrontOf given (text_of forms first) → KeepsPrefix span first forms → (status ≡ 4) ⊎ (status ≡ 6) → Ran first status Never span image all rest given
+ran_part status first span image all rest given forms whole front crash why = record {
   forms = forms ++ whole.0;
   ending = whole.1;
   script = whole.2;
   front = more_of_text first forms whole.0 given front;
-  how = inr (inr late);
-  done = λ e. absurd (late_is status 0 late (omega arith) e);
-  syntax = λ e. absurd (late_is status 2 late (omega arith) e);
-  too_long = λ e. absurd (late_not_nine status late e);
-  read_fault = λ e. absurd (late_is status 3 late (omega arith) e);
+  how = inr (elim why [ inl is ↦ inr (inl is) | inr is ↦ inr (inr (inr is)) ]);
+  done = λ e. absurd (elim why [ inl is ↦ omega arith | inr is ↦ omega arith ]);
+  syntax = λ e. absurd (elim why [ inl is ↦ omega arith | inr is ↦ omega arith ]);
+  too_long = λ e. absurd (elim why [ inl is ↦ omega arith | inr is ↦ omega arith ]);
+  read_fault = λ e. absurd (elim why [ inl is ↦ omega arith | inr is ↦ omega arith ]);
+  disk_fault = λ e. absurd (elim why [ inl is ↦ omega arith | inr is ↦ omega arith ]);
   crash = ran_crash first forms whole.0 span crash;
-  last = λ e. absurd (late_is status 0 late (omega arith) e);
+  last = λ e. absurd (elim why [ inl is ↦ omega arith | inr is ↦ omega arith ]);
+}
+
+-- a run that was cut off by the disk
+ran_in_doubt : (first : State) (span : Span) (image : ℕ → List ℕ → Type 0) (all rest given : List ℕ) (answered : List Form) (form : Form)
+    → WholeBegins all (answered ++ form ∷ []) → given ≡ text_of answered first → IsTrue (store_logs form (state_after answered first))
+    → KeepsPrefix span first (answered ++ form ∷ []) → Ran first 5 Never span image all rest given
+ran_in_doubt first span image all rest given answered form whole text logged crash = record {
+  forms = (answered ++ form ∷ []) ++ whole.0;
+  ending = whole.1;
+  script = whole.2;
+  front = more_of_text first (answered ++ form ∷ []) whole.0 given (more_of_text first answered (form ∷ []) given ([], sym text ∙ sym (append-nil given)));
+  how = inr (inr (inr (inl refl)));
+  done = λ e. absurd (omega arith);
+  syntax = λ e. absurd (omega arith);
+  too_long = λ e. absurd (omega arith);
+  read_fault = λ e. absurd (omega arith);
+  disk_fault = λ e. inr (record {
+    answered = answered;
+    form = form;
+    behind = whole.0;
+    are = append_assoc answered (form ∷ []) whole.0;
+    text = text;
+    logged = logged;
+  });
+  crash = ran_crash first (answered ++ form ∷ []) whole.0 span crash;
+  last = λ e. absurd (omega arith);
 }
 
 -- a run that met bytes that are no form
@@ -329,6 +364,7 @@ ran_to_fault first span image all rest given forms script text crash = record {
   syntax = λ e. text;
   too_long = λ e. absurd (omega arith);
   read_fault = λ e. absurd (omega arith);
+  disk_fault = λ e. absurd (omega arith);
   crash = ran_crash_all first forms span crash;
   last = λ e. absurd (omega arith);
 }
@@ -341,14 +377,14 @@ assemble X status first v x image told given is =
     told_map v.left x.left told (λ all rest p. told_map v.sink x.sink given (λ a b q. (q.0, q.1, is all rest q.0 p q.2)))
 
 -- only a front of the next replies was given
-part_stops : (v w x : View) (input : List ℕ) (at : ℕ) (first state : State) (image : ℕ → List ℕ → Type 0) (status : ℕ) → IsCutLate status
+part_stops : (v w x : View) (input : List ℕ) (at : ℕ) (first state : State) (image : ℕ → List ℕ → Type 0) (status : ℕ) → (status ≡ 4) ⊎ (status ≡ 6)
     → HasMore v w input at first state → Extends w.sink x.sink (ServedPart false (drop at input) state (over w x)) → Kept w.left x.left
     → Ends first status Never (over v x) image v.left x.left v.sink x.sink
-part_stops v w x input at first state image status late more served kept =
+part_stops v w x input at first state image status why more served kept =
     assemble (ServedPart false input first (over v x)) status first v x image (still_left v w x input more.told kept)
     (joined (ServedPart false input first (over v x)) false input (drop at input) first state v w x more.given served (both_part false input (drop at input) first state v w x))
     (λ all rest given is begun. ran_part status first (over v x) image all rest given begun.forms
-    (subst (λ (b : List ℕ). WholeBegins b begun.forms) (sym is) (whole_begins input rest begun.forms more.short begun.reads)) begun.front begun.crash late)
+    (subst (λ (b : List ℕ). WholeBegins b begun.forms) (sym is) (whole_begins input rest begun.forms more.short begun.reads)) begun.front begun.crash why)
 
 -- serving the lines of a piece ended early
 pub served_stops : (v w x : View) (input : List ℕ) (at : ℕ) (first state : State) (image : ℕ → List ℕ → Type 0) (s : Stop) (sink_rose disk_rose : Type 0)
@@ -363,8 +399,13 @@ served_stops v w x input at first state image stop.Damaged sink_rose disk_rose m
 served_stops v w x input at first state image stop.ReadFault sink_rose disk_rose more served kept = absurd served
 served_stops v w x input at first state image stop.TooLong sink_rose disk_rose more served kept = absurd served
 served_stops v w x input at first state image stop.WriteFault sink_rose disk_rose more served kept = part_stops v w x input at first state image 4 (inl refl) more served.0 kept
-served_stops v w x input at first state image stop.DiskFault sink_rose disk_rose more served kept = part_stops v w x input at first state image 5 (inr (inl refl)) more served.0 kept
-served_stops v w x input at first state image stop.NoMemory sink_rose disk_rose more served kept = part_stops v w x input at first state image 6 (inr (inr refl)) more served kept
+served_stops v w x input at first state image stop.DiskFault sink_rose disk_rose more served kept =
+    assemble (ServedToDoubt false input first (over v x)) 5 first v x image (still_left v w x input more.told kept)
+    (joined (ServedToDoubt false input first (over v x)) false input (drop at input) first state v w x more.given served.0 (both_to_doubt false input (drop at input) first state v w x))
+    (λ all rest given is doubt. ran_in_doubt first (over v x) image all rest given doubt.answered doubt.form
+    (subst (λ (b : List ℕ). WholeBegins b (doubt.answered ++ doubt.form ∷ [])) (sym is) (whole_begins input rest (doubt.answered ++ doubt.form ∷ []) more.short doubt.reads))
+    doubt.text doubt.logged doubt.crash)
+served_stops v w x input at first state image stop.NoMemory sink_rose disk_rose more served kept = part_stops v w x input at first state image 6 (inr refl) more served kept
 
 -- ---- no further piece came
 
@@ -391,6 +432,7 @@ ran_to_read_fault first state span image input all rest given at few is served r
       syntax = λ e. absurd (omega arith);
       too_long = λ e. absurd (omega arith);
       read_fault = λ e. (input, served.forms, is, script_so_far input at served.forms served.reads rests, served.text);
+      disk_fault = λ e. absurd (omega arith);
       crash = ran_crash first served.forms whole.0 span served.crash;
       last = λ e. absurd (omega arith);
     }
@@ -410,6 +452,7 @@ ran_to_limit first state span image input all rest given at full more is some se
   syntax = λ e. absurd (omega arith);
   too_long = λ e. served.text;
   read_fault = λ e. absurd (omega arith);
+  disk_fault = λ e. absurd (omega arith);
   crash = ran_crash_all first served.forms span served.crash;
   last = λ e. absurd (omega arith);
 }
@@ -438,7 +481,7 @@ take_stops v w x input at first state image image' stop.NoMemory input_rose run 
     (λ all rest given is served. ran_part 6 first (over v x) image' all rest given served.forms
     (subst (λ (b : List ℕ). WholeBegins b served.forms) (sym is.1)
     (whole_begins input is.0 served.forms run.short (reads_begins false input (drop at input) served.forms served.reads)))
-    ([], sym served.text ∙ sym (append-nil given)) served.crash (inr (inr refl)))
+    ([], sym served.text ∙ sym (append-nil given)) served.crash (inr refl))
 
 -- ---- the input has ended
 
@@ -485,6 +528,7 @@ ran_to_end first new span image input all rest last given few is none served res
   syntax = λ e. absurd (omega arith);
   too_long = λ e. absurd (omega arith);
   read_fault = λ e. absurd (omega arith);
+  disk_fault = λ e. absurd (omega arith);
   crash = ran_crash_all first served.forms span served.crash;
   last = λ e files images. subst (λ (t : State). Recovers files (Recovered t)) served.state (recovers files images);
 }
@@ -497,14 +541,14 @@ finished v w x input at next first state new image came served kept recovers =
     (joined (Served true input (drop next input) first new (over v x)) false input (drop at input) first state v w x came.given served.given (both_served true input (drop at input) (drop next input) first state new v w x))
     (λ all rest given is done. ran_to_end first new (over v x) image input all rest (drop next input) given came.short is.0 is.1 done served.rests recovers)
 
-part_at_end : (v w x : View) (input : List ℕ) (at : ℕ) (first state : State) (image : ℕ → List ℕ → Type 0) (status : ℕ) → IsCutLate status
+part_at_end : (v w x : View) (input : List ℕ) (at : ℕ) (first state : State) (image : ℕ → List ℕ → Type 0) (status : ℕ) → (status ≡ 4) ⊎ (status ≡ 6)
     → AllCame v w input at first state → Extends w.sink x.sink (ServedPart true (drop at input) state (over w x)) → Kept w.left x.left
     → Ends first status Never (over v x) image v.left x.left v.sink x.sink
-part_at_end v w x input at first state image status late came served kept =
+part_at_end v w x input at first state image status why came served kept =
     assemble (ServedPart true input first (over v x)) status first v x image (still_ended v w x input came.ended kept)
     (joined (ServedPart true input first (over v x)) false input (drop at input) first state v w x came.given served (both_part true input (drop at input) first state v w x))
     (λ all rest given is begun. ran_part status first (over v x) image all rest given begun.forms
-    (subst (λ (b : List ℕ). WholeBegins b begun.forms) (sym is.0) (whole_begins_true input begun.forms came.short begun.reads)) begun.front begun.crash late)
+    (subst (λ (b : List ℕ). WholeBegins b begun.forms) (sym is.0) (whole_begins_true input begun.forms came.short begun.reads)) begun.front begun.crash why)
 
 pub finish_stops : (v w x : View) (input : List ℕ) (at : ℕ) (first state : State) (image : ℕ → List ℕ → Type 0) (s : Stop) (sink_rose disk_rose : Type 0)
     → AllCame v w input at first state → ServeStops s true (drop at input) state (over w x) w.sink x.sink sink_rose disk_rose → Kept w.left x.left
@@ -518,8 +562,13 @@ finish_stops v w x input at first state image stop.Damaged sink_rose disk_rose c
 finish_stops v w x input at first state image stop.ReadFault sink_rose disk_rose came served kept = absurd served
 finish_stops v w x input at first state image stop.TooLong sink_rose disk_rose came served kept = absurd served
 finish_stops v w x input at first state image stop.WriteFault sink_rose disk_rose came served kept = part_at_end v w x input at first state image 4 (inl refl) came served.0 kept
-finish_stops v w x input at first state image stop.DiskFault sink_rose disk_rose came served kept = part_at_end v w x input at first state image 5 (inr (inl refl)) came served.0 kept
-finish_stops v w x input at first state image stop.NoMemory sink_rose disk_rose came served kept = part_at_end v w x input at first state image 6 (inr (inr refl)) came served kept
+finish_stops v w x input at first state image stop.DiskFault sink_rose disk_rose came served kept =
+    assemble (ServedToDoubt true input first (over v x)) 5 first v x image (still_ended v w x input came.ended kept)
+    (joined (ServedToDoubt true input first (over v x)) false input (drop at input) first state v w x came.given served.0 (both_to_doubt true input (drop at input) first state v w x))
+    (λ all rest given is doubt. ran_in_doubt first (over v x) image all rest given doubt.answered doubt.form
+    (subst (λ (b : List ℕ). WholeBegins b (doubt.answered ++ doubt.form ∷ [])) (sym is.0) (whole_begins_true input (doubt.answered ++ doubt.form ∷ []) came.short doubt.reads))
+    doubt.text doubt.logged doubt.crash)
+finish_stops v w x input at first state image stop.NoMemory sink_rose disk_rose came served kept = part_at_end v w x input at first state image 6 (inr refl) came served kept
 
 -- ---- which count rose
 

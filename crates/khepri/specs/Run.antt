@@ -1,5 +1,5 @@
 -- What a whole run does.
-use Rattle.std.specs.Prelude.{◌≡◌, ℕ, ◌-◌, ◌<◌, ◌^◌, ◌⊎◌, codes, List, [], ◌∷◌, ◌++◌, Option, Result, Ok, Err, pos}
+use Rattle.std.specs.Prelude.{◌≡◌, ℕ, ◌-◌, ◌<◌, ◌^◌, ◌⊎◌, codes, List, [], ◌∷◌, ◌++◌, Option, Result, Ok, Err, IsTrue, pos}
 use Rattle.kh_term.specs.declared.tree.TermTree.{TermTree}
 use Rattle.kh_term.specs.declared.tree.TermTree.TheVariants as tree
 use Rattle.kh_io.specs.declared.files.Files.{Files}
@@ -10,7 +10,7 @@ use Rattle.kh_read.specs.declared.form.Form.{Form}
 use Rattle.khepri.specs.declared.session.Stop.{Stop}
 use Rattle.khepri.specs.declared.session.Stop.TheVariants as stop
 use Rattle.khepri.specs.Machine.{word}
-use Rattle.khepri.specs.State.{State, state_after, text_of}
+use Rattle.khepri.specs.State.{State, store_logs, state_after, text_of}
 use Rattle.khepri.specs.Recovery.{Recovery, Recovered, Damaged, Recovers}
 use Rattle.khepri.specs.Script.{Ending, AtEnd, AtFault, Unfinished, WholeScript, FrontScript}
 use Rattle.khepri.specs.Session.{KeepsAnswered}
@@ -45,6 +45,15 @@ IsCutOff status = (status ≡ 3) ⊎ ((status ≡ 4) ⊎ ((status ≡ 5) ⊎ (st
 abbrev pub AtEntry : (ℕ → List ℕ → Type 0) → ℕ → Files → ℕ → Type 0
 AtEntry image given files s = AreImages image files × (s ≡ given)
 
+-- All commands before one that is logged were answered, and of its reply nothing was given.
+pub record OneInDoubt (first : State) (forms : List Form) (given : List ℕ) : Type 0 where
+  pub answered : List Form
+  pub form : Form
+  pub behind : List Form
+  pub are : forms ≡ answered ++ form ∷ behind
+  pub text : given ≡ text_of answered first
+  pub logged : IsTrue (store_logs form (state_after answered first))
+
 -- nothing
 abbrev pub Never : Files → ℕ → Type 0
 Never files s = ⊥
@@ -66,6 +75,8 @@ pub record Ran (first : State) (status : ℕ) (entry : Files → ℕ → Type 0)
   -- 3: the lines that had come whole were answered
   pub read_fault : status ≡ 3 → (taken : List ℕ) × (come : List Form) × (input ≡ taken ++ rest) × FrontScript taken come Unfinished
       × (given ≡ text_of come first)
+  -- 5: the opening failed, and nothing was taken nor given; or one command that is logged is in doubt, and those before it were answered
+  pub disk_fault : status ≡ 5 → ((rest ≡ input) × (given ≡ [])) ⊎ OneInDoubt first forms given
   -- a crash at any moment of the run: before the opening has done anything, or with every command that was answered
   pub crash : LeavesOnly span.from span.to span.past span.since (λ files s. entry files s ⊎ KeepsAnswered first forms span.stamp files s)
   -- 0: a crash from then on leaves the state after all commands

@@ -1,12 +1,12 @@
 -- What answering the forms of a script does.
-use Rattle.std.specs.Prelude.{◌≡◌, ℕ, ◌≤◌, Bool, List, [], length, drop, Option}
+use Rattle.std.specs.Prelude.{◌≡◌, ℕ, ◌≤◌, Bool, List, [], ◌∷◌, ◌++◌, length, drop, Option, IsTrue}
 use Rattle.kh_io.specs.declared.files.Files.{Files}
 use Rattle.kh_io.specs.Told.{Extends, IsFrontOf}
 use Rattle.kh_io.specs.Disk.{LeavesOnly}
 use Rattle.kh_read.specs.declared.form.Form.{Form}
 use Rattle.khepri.specs.declared.session.Stop.{Stop}
 use Rattle.khepri.specs.declared.session.Stop.TheVariants as stop
-use Rattle.khepri.specs.State.{State, state_after, text_of}
+use Rattle.khepri.specs.State.{State, store_logs, state_after, text_of}
 use Rattle.khepri.specs.Script.{AtFault, all_read, Script, Reads, EndsReading, BeginsReading}
 use Rattle.khepri.specs.Session.{HasPrefix}
 
@@ -54,6 +54,15 @@ pub record ServedPart (is_end : Bool) (bytes : List ℕ) (old : State) (span : S
   pub front : IsFrontOf given (text_of forms old)
   pub crash : KeepsPrefix span old forms
 
+-- Over the span, the forms before one that is logged were answered whole, and of its reply nothing was given.
+pub record ServedToDoubt (is_end : Bool) (bytes : List ℕ) (old : State) (span : Span) (given : List ℕ) : Type 0 where
+  pub answered : List Form
+  pub form : Form
+  pub reads : BeginsReading is_end bytes (answered ++ form ∷ [])
+  pub text : given ≡ text_of answered old
+  pub logged : IsTrue (store_logs form (state_after answered old))
+  pub crash : KeepsPrefix span old (answered ++ form ∷ [])
+
 -- The lines from a place on were answered up to another place, behind which no whole line is left.
 pub record ServesTo (is_end : Bool) (input : List ℕ) (at next : ℕ) (old new : State) (span : Span) (sink sink_after : Option (List ℕ)) : Type 0 where
   pub within : next ≤ length input
@@ -64,7 +73,7 @@ pub record ServesTo (is_end : Bool) (input : List ℕ) (at next : ℕ) (old new 
 abbrev pub ServeStops : Stop → Bool → List ℕ → State → Span → Option (List ℕ) → Option (List ℕ) → (sink_rose disk_rose : Type 0) → Type 0
 ServeStops stop.Syntax is_end bytes old span sink sink_after sink_rose disk_rose = Extends sink sink_after (ServedToFault is_end bytes old span)
 ServeStops stop.WriteFault is_end bytes old span sink sink_after sink_rose disk_rose = Extends sink sink_after (ServedPart is_end bytes old span) × sink_rose
-ServeStops stop.DiskFault is_end bytes old span sink sink_after sink_rose disk_rose = Extends sink sink_after (ServedPart is_end bytes old span) × disk_rose
+ServeStops stop.DiskFault is_end bytes old span sink sink_after sink_rose disk_rose = Extends sink sink_after (ServedToDoubt is_end bytes old span) × disk_rose
 ServeStops stop.NoMemory is_end bytes old span sink sink_after sink_rose disk_rose = Extends sink sink_after (ServedPart is_end bytes old span)
 ServeStops stop.Damaged is_end bytes old span sink sink_after sink_rose disk_rose = ⊥
 ServeStops stop.ReadFault is_end bytes old span sink sink_after sink_rose disk_rose = ⊥

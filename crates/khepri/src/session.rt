@@ -1,11 +1,11 @@
 //! The forms of a script are read and answered, one after another.
-ghost use Rattle.std.specs.Prelude.{◌≡◌, ◌≤◌, IsTrue, length, drop, OnOk, OnErr, IfOk, IfErr};
+ghost use Rattle.std.specs.Prelude.{◌≡◌, ◌≤◌, IsTrue, length, drop, Err, OnOk, OnErr, IfOk, IfErr};
 ghost use Rattle.kh_io.specs.Told.{Kept, Extends, IsFrontOf, Rose};
 ghost use Rattle.kh_io.specs.Disk.{LeavesOnly};
 ghost use Rattle.kh_text_defs.specs.Shown.{shown_line};
 ghost use Rattle.khepri.specs.Command.{is_command};
 ghost use Rattle.khepri.specs.Output.{GivesAll};
-ghost use Rattle.khepri.specs.State.{store_reply, store_after};
+ghost use Rattle.khepri.specs.State.{store_logs, store_reply, store_after};
 ghost use Rattle.khepri.specs.Store.{state_of, Stands, WritesLogAlone};
 ghost use Rattle.khepri.specs.Session.{Answering};
 ghost use Rattle.khepri.specs.Serving.{AnswerStops, ServesTo, ServeStops};
@@ -46,6 +46,7 @@ pub fn answer<H: Host>(
     ensures after { OnOk result (state_of store.new ≡ store_after form (state_of store.old)) }
     ensures stands { OnOk result (Stands store.new (H.seen host.new 1) (H.image host.new 1)) }
     ensures front { OnErr result (Extends (H.given host.old) (H.given host.new) (λ more. IsFrontOf more (shown_line (store_reply form (state_of store.old))))) }
+    ensures in_doubt { result ≡ Err Stop.DiskFault → Kept (H.given host.old) (H.given host.new) × IsTrue (store_logs form (state_of store.old)) }
     ensures any_moment { LeavesOnly (H.moment host.old) (H.moment host.new) (H.left_since host.old) (H.left_since host.new)
         (Answering form (state_of store.old) (H.stamp host.old) (H.stamp host.new)) }
     ensures stops { IfErr result (λ stop. AnswerStops stop (Rose (H.write_faults host.old) (H.write_faults host.new)) (Rose (H.disk_faults host.old) (H.disk_faults host.new))) }

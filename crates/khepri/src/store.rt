@@ -8,7 +8,7 @@ ghost use Rattle.khepri.specs.declared.store.OpenError.TheVariants as open_error
 ghost use Rattle.khepri.specs.declared.store.StoreError.TheVariants as store_error;
 ghost use Rattle.khepri.specs.Opening.{opening_error};
 ghost use Rattle.khepri.specs.Command.{is_command, is_atom_path};
-ghost use Rattle.khepri.specs.State.{store_reply, store_after};
+ghost use Rattle.khepri.specs.State.{store_logs, store_reply, store_after};
 ghost use Rattle.khepri.specs.Recovery.{Recovered, Damaged, Recovers};
 ghost use Rattle.khepri.specs.Store.{FilesTold, state_of, Stands, AreSafe, Begun, Opening, ReadsAsBefore, WritesLogAlone, Executing};
 
@@ -148,6 +148,7 @@ impl Store {
         ensures any_moment { LeavesOnly (H.moment host.old) (H.moment host.new) (H.left_since host.old) (H.left_since host.new) (Executing form (state_of self.old) (H.stamp host.old)) }
         ensures no_memory { result ≡ Err store_error.NoMemory → (self.new ≡ self.old) × (host.new ≡ host.old) }
         ensures files { WritesLogAlone (H.seen host.old) (H.seen host.new) (H.image host.old) (H.image host.new) }
+        ensures in_doubt { result ≡ Err store_error.DiskFault → IsTrue (store_logs form (state_of self.old)) }
         ensures fault { result ≡ Err store_error.DiskFault → Rose (H.disk_faults host.old) (H.disk_faults host.new) }
         ensures no_fault { OnOk result (H.disk_faults host.new ≡ H.disk_faults host.old) }
         ensures faults_stand { H.disk_faults host.old ≤ H.disk_faults host.new }
@@ -178,6 +179,7 @@ impl Store {
         ensures any_moment { LeavesOnly (H.moment host.old) (H.moment host.new) (H.left_since host.old) (H.left_since host.new) (Executing (form.Put path number) (state_of self.old) (H.stamp host.old)) }
         ensures no_memory { result ≡ Err store_error.NoMemory → (self.new ≡ self.old) × (host.new ≡ host.old) }
         ensures files { WritesLogAlone (H.seen host.old) (H.seen host.new) (H.image host.old) (H.image host.new) }
+        ensures in_doubt { result ≡ Err store_error.DiskFault → IsTrue (store_logs (form.Put path number) (state_of self.old)) }
         ensures fault { result ≡ Err store_error.DiskFault → Rose (H.disk_faults host.old) (H.disk_faults host.new) }
         ensures no_fault { OnOk result (H.disk_faults host.new ≡ H.disk_faults host.old) }
         ensures faults_stand { H.disk_faults host.old ≤ H.disk_faults host.new }

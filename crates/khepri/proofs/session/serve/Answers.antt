@@ -40,7 +40,7 @@ returns-in-Err-answer-clause-stops g c =
     (state_of c.args.store.now) (state_of c.lines.store) c.in-Ok-Form.form (host.given c.args.host.now) (host.given c.lines.host) (host.given c.answer.new.host)
     (host.stamp c.args.host.now) (host.stamp c.lines.host) (host.stamp c.answer.new.host) _ _ c.in-Err-answer.stop
     (counts _ _ (g.met.H.Disk.stamp_counts c.args.host.now)) (counts _ _ (g.met.H.Disk.stamp_counts c.lines.host)) (counts _ _ (g.met.H.Disk.stamp_counts c.answer.new.host))
-    before.given line.0 call.front call.any_moment call.stops (λ rose. rw (← before.no_fault) rose) (λ rose. rw (← before.no_disk_fault) rose)
+    before.given line.0 call.front call.in_doubt call.any_moment call.stops (λ rose. rw (← before.no_fault) rose) (λ rose. rw (← before.no_disk_fault) rose)
 
 pub lines-preserved : goal.lines-preserved
 lines-preserved g c =
