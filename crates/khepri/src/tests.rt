@@ -1,4 +1,5 @@
 //! The top call over hosts in memory. What is expected was worked out by hand.
+mod limits;
 mod reopening;
 mod slow_host;
 

@@ -16,13 +16,15 @@ use std::alloc::Global;
 /// 5 the disk failed; 6 memory ran out; 7 other words; 9 a script of more than 67,108,864 bytes.
 pub fn khepri<H: Host>(alloc: Global, words: &[String], host: &mut H) -> u8
     // Where the files at entry recover to a state: what was given is a front of the replies to the commands, executed from that state
-    // on, at 0, 2 and 9 all of them; and a crash at any moment since entry leaves what a crash at entry might have left, or the state
-    // after the first k commands, among which is each whose reply has begun; after 0 it leaves the state after all.
+    // on, at 0, 2 and 9 all of them; at 5 nothing was taken, or those before one logged command were answered; and a crash at any
+    // moment since entry leaves what a crash at entry might have left, or the state after the first k commands, among which is each
+    // whose reply has begun; after 0 it leaves the state after all.
     // Where they are damaged: the line that says so is given, and reads and crashes give what they gave.
     ensures session { IsTrue (are_right words.now) → FilesTold (H.seen host.old) (H.seen host.new) (λ files. (found : Recovery) → Recovers files found → Runs found result
         (record { stamp = H.stamp host.old; from = H.moment host.old; to = H.moment host.new; past = H.left_since host.old; since = H.left_since host.new })
         (H.image host.old) (H.image host.new) (H.seen host.old) (H.seen host.new) (H.left host.old) (H.left host.new) (H.given host.old) (H.given host.new)) }
 
+    // Of each file but the log a read gives what it gave, and a crash leaves nothing that it couldn't have left at entry.
     ensures files { WritesLogAlone (H.seen host.old) (H.seen host.new) (H.image host.old) (H.image host.new) }
 
     // After 0 and 1 a crash leaves of each file what a read gives.

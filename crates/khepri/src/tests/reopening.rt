@@ -4,7 +4,7 @@ use super::{ROOM, files_of, words};
 use crate::command::{pack_put, read_put};
 use crate::plain::plain_session;
 use crate::top::khepri;
-use kh_io::{FileBytes, Files, MemoryHost};
+use kh_io::{Disk, Files, Host, MemoryHost};
 use kh_term::{Atom, Name, Path};
 use std::alloc::Global;
 use std::process::Abort;
@@ -109,6 +109,49 @@ fn a_log_is_cut_at_every_length(rt: HostRuntime) -> Result<(), Fail> {
         leaves(&rt, alloc, &STOCK[..len], b"{damaged,1,1}.\n", 1)?;
     }
     leaves(&rt, alloc, STOCK, FOUND, 0)
+}
+
+#[test]
+fn a_file_without_a_log_gets_an_empty_one(rt: HostRuntime) -> Result<(), Fail> {
+    let alloc = rt.alloc();
+    let run = words(alloc, &["run"])?;
+    let rows: [&[u8]; 5] = [b"", b"\0", b"\x01", b"\xa5", b"\xff"];
+    for log in rows {
+        let mut host = host_over(alloc, files_of(alloc, log)?, b"", &[])?;
+        assert_eq!(rt; khepri(alloc, run.as_slice(), &mut host), 0);
+        for fill in FILLS {
+            let after = image(&host, host.calls(), fill)?;
+            assert_eq!(rt; after.l0.as_slice(), b"\0".as_slice());
+        }
+    }
+    Ok(())
+}
+
+// A host without input each of whose files was written, and none synced.
+fn unsynced_host(alloc: Global) -> Result<MemoryHost, Fail> {
+    let mut host = host_over(alloc, files_of(alloc, b"")?, b"", &[])?;
+    for file in 0..4 {
+        host.write_at(file, 0, STOCK).map_err(|_| "no file")?;
+    }
+    Ok(host)
+}
+
+#[test]
+fn the_opening_makes_every_file_safe(rt: HostRuntime) -> Result<(), Fail> {
+    let alloc = rt.alloc();
+    let run = words(alloc, &["run"])?;
+    let mut host = unsynced_host(alloc)?;
+    let before = image(&host, host.calls(), Some(0))?;
+    assert!(rt; before.l0.as_slice() != STOCK);
+    assert_eq!(rt; khepri(alloc, run.as_slice(), &mut host), 0);
+    for fill in FILLS {
+        let after = image(&host, host.calls(), fill)?;
+        assert_eq!(rt; after.s0.as_slice(), STOCK);
+        assert_eq!(rt; after.l0.as_slice(), STOCK);
+        assert_eq!(rt; after.s1.as_slice(), STOCK);
+        assert_eq!(rt; after.l1.as_slice(), STOCK);
+    }
+    Ok(())
 }
 
 // A put of 150 to the path `[stock]`.
@@ -467,7 +510,16 @@ fn a_crash_leaves_the_state_after_some_commands(rt: HostRuntime) -> Result<(), F
     Ok(())
 }
 
-// The disk fails at this call, while the store is opened over a log. The files are then as they were, also after a crash.
+// What is left of an input that is shorter than 32 bytes.
+fn rest_of(alloc: Global, host: &mut MemoryHost) -> Result<Vec<u8>, Fail> {
+    let mut rest = [0u8; 32];
+    let count = host.take(&mut rest).map_err(|_| "no input")?;
+    let (front, _) = rest.split_at(count.min(32));
+    Ok(front.to_vec(alloc)?)
+}
+
+// The disk fails at this call, while the store is opened over a log. No input is taken then, and the files are as they were, also
+// after a crash.
 fn fails_in_opening(
     rt: &impl Abort,
     alloc: Global,
@@ -476,9 +528,12 @@ fn fails_in_opening(
     answer: &[u8],
 ) -> Result<(), Fail> {
     let run = words(alloc, &["run"])?;
-    let mut host = host_over(alloc, files_of(alloc, log)?, b"{put,[stock],1}.\n", &[call])?;
+    let script: &[u8] = b"{put,[stock],1}.\n";
+    let mut host = host_over(alloc, files_of(alloc, log)?, script, &[call])?;
     assert_eq!(rt; khepri(alloc, run.as_slice(), &mut host), 5);
     assert_eq!(rt; host.output(), b"".as_slice());
+    let left = rest_of(alloc, &mut host)?;
+    assert_eq!(rt; left.as_slice(), script);
     for fill in FILLS {
         let files = image(&host, host.calls(), fill)?;
         reopens(rt, alloc, files, GET_STOCK, answer, 0)?;
@@ -499,6 +554,30 @@ fn a_fault_in_the_opening_loses_nothing(rt: HostRuntime) -> Result<(), Fail> {
         for call in 0..calls {
             fails_in_opening(&rt, alloc, log, call, answer)?;
         }
+    }
+    Ok(())
+}
+
+#[test]
+fn a_fault_is_met_before_damage_or_in_its_line(rt: HostRuntime) -> Result<(), Fail> {
+    let alloc = rt.alloc();
+    let run = words(alloc, &["run"])?;
+    // Four syncs, two lengths and one read meet the record that lacks bytes, and call 7 gives the line.
+    let rows = [
+        (0, 5),
+        (1, 5),
+        (2, 5),
+        (3, 5),
+        (4, 5),
+        (5, 5),
+        (6, 5),
+        (7, 4),
+    ];
+    for (call, status) in rows {
+        let mut host = host_over(alloc, files_of(alloc, &STOCK[..20])?, GET_STOCK, &[call])?;
+        assert_eq!(rt; khepri(alloc, run.as_slice(), &mut host), status);
+        assert_eq!(rt; host.output(), b"".as_slice());
+        assert_eq!(rt; host.calls(), call.saturating_add(1));
     }
     Ok(())
 }
