@@ -108,6 +108,12 @@ fn words(alloc: Global, texts: &[&str]) -> Result<Vec<String>, Fail> {
     Ok(words)
 }
 
+// The status of the program over a host in memory.
+fn run(alloc: Global, host: &mut MemoryHost) -> Result<u8, Fail> {
+    let words = words(alloc, &["run"])?;
+    Ok(khepri(alloc, words.as_slice(), host))
+}
+
 // The whole script comes at once, and each reply is taken whole.
 fn answers(
     rt: &impl Abort,
@@ -117,11 +123,10 @@ fn answers(
     output: &[u8],
     status: u8,
 ) -> Result<(), Fail> {
-    let run = words(alloc, &["run"])?;
     let (script, failing) = (script.to_vec(alloc)?, failing.to_vec(alloc)?);
     let files = files_of(alloc, b"")?;
     let mut host = MemoryHost::new(alloc, script, files, failing, ROOM)?;
-    assert_eq!(rt; khepri(alloc, run.as_slice(), &mut host), status);
+    assert_eq!(rt; run(alloc, &mut host)?, status);
     assert_eq!(rt; host.output(), output);
     Ok(())
 }

@@ -1,8 +1,7 @@
 //! A full store: one of as many nodes, and one of as long a log, as there may be.
-use super::{files_of, words};
+use super::{files_of, run};
 use crate::command::pack_put;
 use crate::replay::has_room;
-use crate::top::khepri;
 use kh_io::{Files, MemoryHost};
 use kh_term::{Atom, Name, Path};
 use std::alloc::Global;
@@ -18,9 +17,8 @@ fn leaves(
     script: &[u8],
     output: &[u8],
 ) -> Result<Files, Fail> {
-    let run = words(alloc, &["run"])?;
     let mut host = MemoryHost::new(alloc, script.to_vec(alloc)?, files, Vec::new(alloc), room)?;
-    assert_eq!(rt; khepri(alloc, run.as_slice(), &mut host), 0);
+    assert_eq!(rt; run(alloc, &mut host)?, 0);
     assert!(rt; host.output() == output);
     Ok(host.image(host.calls(), None)?)
 }

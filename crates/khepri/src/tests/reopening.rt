@@ -1,9 +1,8 @@
 //! Stores that are opened again: over files of known bytes, over damaged ones, and over what a crash leaves.
 //! The bytes of the files were worked out by hand.
-use super::{ROOM, files_of, words};
+use super::{ROOM, files_of, run};
 use crate::command::{pack_put, read_put};
 use crate::plain::plain_session;
-use crate::top::khepri;
 use kh_io::{Disk, Files, Host, MemoryHost};
 use kh_term::{Atom, Name, Path};
 use std::alloc::Global;
@@ -51,9 +50,8 @@ fn reopens(
     output: &[u8],
     status: u8,
 ) -> Result<(), Fail> {
-    let run = words(alloc, &["run"])?;
     let mut host = host_over(alloc, files, script, &[])?;
-    assert_eq!(rt; khepri(alloc, run.as_slice(), &mut host), status);
+    assert_eq!(rt; run(alloc, &mut host)?, status);
     assert_eq!(rt; host.output(), output);
     Ok(())
 }
@@ -66,9 +64,8 @@ fn leaves(
     output: &[u8],
     status: u8,
 ) -> Result<(), Fail> {
-    let run = words(alloc, &["run"])?;
     let mut host = host_over(alloc, files_of(alloc, log)?, GET_STOCK, &[])?;
-    assert_eq!(rt; khepri(alloc, run.as_slice(), &mut host), status);
+    assert_eq!(rt; run(alloc, &mut host)?, status);
     assert_eq!(rt; host.output(), output);
     let after = image(&host, host.calls(), None)?;
     assert_eq!(rt; after.l0.as_slice(), log);
@@ -89,9 +86,8 @@ fn log_of(alloc: Global, records: &[&[u8]]) -> Result<Vec<u8>, Fail> {
 #[test]
 fn a_put_is_found_again(rt: HostRuntime) -> Result<(), Fail> {
     let alloc = rt.alloc();
-    let run = words(alloc, &["run"])?;
     let mut host = host_over(alloc, files_of(alloc, b"")?, b"{put,[stock],150}.\n", &[])?;
-    assert_eq!(rt; khepri(alloc, run.as_slice(), &mut host), 0);
+    assert_eq!(rt; run(alloc, &mut host)?, 0);
     assert_eq!(rt; host.output(), b"ok.\n".as_slice());
     let after = image(&host, host.calls(), None)?;
     assert_eq!(rt; after.l0.as_slice(), STOCK);
@@ -114,11 +110,10 @@ fn a_log_is_cut_at_every_length(rt: HostRuntime) -> Result<(), Fail> {
 #[test]
 fn a_file_without_a_log_gets_an_empty_one(rt: HostRuntime) -> Result<(), Fail> {
     let alloc = rt.alloc();
-    let run = words(alloc, &["run"])?;
     let rows: [&[u8]; 5] = [b"", b"\0", b"\x01", b"\xa5", b"\xff"];
     for log in rows {
         let mut host = host_over(alloc, files_of(alloc, log)?, b"", &[])?;
-        assert_eq!(rt; khepri(alloc, run.as_slice(), &mut host), 0);
+        assert_eq!(rt; run(alloc, &mut host)?, 0);
         for fill in FILLS {
             let after = image(&host, host.calls(), fill)?;
             assert_eq!(rt; after.l0.as_slice(), b"\0".as_slice());
@@ -139,11 +134,10 @@ fn unsynced_host(alloc: Global) -> Result<MemoryHost, Fail> {
 #[test]
 fn the_opening_makes_every_file_safe(rt: HostRuntime) -> Result<(), Fail> {
     let alloc = rt.alloc();
-    let run = words(alloc, &["run"])?;
     let mut host = unsynced_host(alloc)?;
     let before = image(&host, host.calls(), Some(0))?;
     assert!(rt; before.l0.as_slice() != STOCK);
-    assert_eq!(rt; khepri(alloc, run.as_slice(), &mut host), 0);
+    assert_eq!(rt; run(alloc, &mut host)?, 0);
     for fill in FILLS {
         let after = image(&host, host.calls(), fill)?;
         assert_eq!(rt; after.s0.as_slice(), STOCK);
@@ -374,9 +368,8 @@ fn images_answer(
 #[test]
 fn a_crash_leaves_the_puts_before_its_gate(rt: HostRuntime) -> Result<(), Fail> {
     let alloc = rt.alloc();
-    let run = words(alloc, &["run"])?;
     let mut host = host_over(alloc, files_of(alloc, b"")?, TWO_PUTS, &[])?;
-    assert_eq!(rt; khepri(alloc, run.as_slice(), &mut host), 0);
+    assert_eq!(rt; run(alloc, &mut host)?, 0);
     assert_eq!(rt; host.calls(), 21);
     for row in &CRASHES {
         for calls in row.from..row.until.min(22) {
@@ -474,9 +467,8 @@ fn recovers(
     forms: &[&[u8]],
     begun: usize,
 ) -> Result<(), Fail> {
-    let run = words(alloc, &["run"])?;
     let mut host = host_over(alloc, files, GET_ALL, &[])?;
-    assert_eq!(rt; khepri(alloc, run.as_slice(), &mut host), 0);
+    assert_eq!(rt; run(alloc, &mut host)?, 0);
     let now = is_state_after(alloc, forms, begun, host.output())?;
     let next = is_state_after(alloc, forms, begun.saturating_add(1), host.output())?;
     assert!(rt; now || next);
@@ -485,10 +477,9 @@ fn recovers(
 
 // A run whose call of this number fails, if it has one: each image before that call recovers. Answers the status.
 fn crashes_at(rt: &impl Abort, alloc: Global, forms: &[&[u8]], call: u64) -> Result<u8, Fail> {
-    let run = words(alloc, &["run"])?;
     let script = script_of(alloc, forms, forms.len())?;
     let mut host = host_over(alloc, files_of(alloc, b"")?, &script, &[call])?;
-    let status = khepri(alloc, run.as_slice(), &mut host);
+    let status = run(alloc, &mut host)?;
     let begun = count_lines(host.output());
     for fill in FILLS {
         recovers(rt, alloc, image(&host, call, fill)?, forms, begun)?;
@@ -527,10 +518,9 @@ fn fails_in_opening(
     call: u64,
     answer: &[u8],
 ) -> Result<(), Fail> {
-    let run = words(alloc, &["run"])?;
     let script: &[u8] = b"{put,[stock],1}.\n";
     let mut host = host_over(alloc, files_of(alloc, log)?, script, &[call])?;
-    assert_eq!(rt; khepri(alloc, run.as_slice(), &mut host), 5);
+    assert_eq!(rt; run(alloc, &mut host)?, 5);
     assert_eq!(rt; host.output(), b"".as_slice());
     let left = rest_of(alloc, &mut host)?;
     assert_eq!(rt; left.as_slice(), script);
@@ -561,7 +551,6 @@ fn a_fault_in_the_opening_loses_nothing(rt: HostRuntime) -> Result<(), Fail> {
 #[test]
 fn a_fault_is_met_before_damage_or_in_its_line(rt: HostRuntime) -> Result<(), Fail> {
     let alloc = rt.alloc();
-    let run = words(alloc, &["run"])?;
     // Four syncs, two lengths and one read meet the record that lacks bytes, and call 7 gives the line.
     let rows = [
         (0, 5),
@@ -575,7 +564,7 @@ fn a_fault_is_met_before_damage_or_in_its_line(rt: HostRuntime) -> Result<(), Fa
     ];
     for (call, status) in rows {
         let mut host = host_over(alloc, files_of(alloc, &STOCK[..20])?, GET_STOCK, &[call])?;
-        assert_eq!(rt; khepri(alloc, run.as_slice(), &mut host), status);
+        assert_eq!(rt; run(alloc, &mut host)?, status);
         assert_eq!(rt; host.output(), b"".as_slice());
         assert_eq!(rt; host.calls(), call.saturating_add(1));
     }
