@@ -2,6 +2,7 @@ pub mod Calls
 pub mod Lists
 pub mod Moments
 pub mod Telling
+pub mod Staying
 pub mod Images
 pub mod Recordings
 pub mod Replays

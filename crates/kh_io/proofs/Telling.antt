@@ -15,6 +15,14 @@ told_map (Some a) None holds is = tt
 told_map None (Some b) holds is = absurd holds
 told_map None None holds is = tt
 
+-- a fact over no call
+pub told_same : {A : Type 0} (P : A → A → Type 0) (o : Option A) → ((a : A) → P a a) → Told o o P
+told_same P (Some a) same = same a
+told_same P None same = tt
+
+pub kept_same : {A : Type 0} (o : Option A) → Kept o o
+kept_same o = told_same _ o (λ a. refl)
+
 -- a fact over two calls
 pub told_both : {A : Type 0} {P Q R : A → A → Type 0} (a b c : Option A) → Told a b P → Told b c Q → ((x y z : A) → P x y → Q y z → R x z) → Told a c R
 told_both (Some x) (Some y) (Some z) p q is = is x y z p q

@@ -1,13 +1,13 @@
 -- A walk from gate to gate, and what a file holds once it ends.
 use Rattle.std.proofs.Common.{◌≡◌, ℕ, zero, suc, ◌+◌, ◌<◌, ◌≤◌, List, [], ◌∷◌, ◌++◌, length, take, drop, Option, Some, None, refl, sym, ap, subst, inl, inr, ◌∙◌, arith, append_assoc, length-append, length-drop, length-take}
-use Rattle.std.specs.Prelude.{IfSome, IsSome, slice_get}
+use Rattle.std.specs.Prelude.{IfSome, slice_get}
 use Rattle.std.proofs.lemmas.List.{drop_at, take_at, drop-drop}
 use Rattle.std.proofs.lemmas.Bool.{cases_lt}
 use Rattle.kh_io.specs.declared.files.Files.{Files}
 use Rattle.kh_io.specs.Told.{Told, Kept}
-use Rattle.kh_io.specs.Disk.{Stays, FilesStay, LeavesOnly}
+use Rattle.kh_io.specs.Disk.{FilesStay, LeavesOnly}
 use Rattle.kh_io.proofs.Moments.{both, images_stay}
-use Rattle.kh_io.proofs.Telling.{told_both, told_map, kept_both}
+use Rattle.kh_io.proofs.Telling.{told_both, told_map}
 use Rattle.kh_log.specs.Records.{open_gate, length_of, Content, content_from, records_of, lacking_in, span, IsClosedAt, IsOpenAt, LacksAt, record_at}
 use Rattle.kh_log.specs.Log.{Place, Holds, passed, EndsAt, Reading}
 use Rattle.kh_log.proofs.Records.{behind_records, length_of-append, Front, with_records, with_records-is, content_of-front, content_of-short, nothing_behind, more_behind, lacking_step, front-append, length-front}
@@ -111,25 +111,6 @@ told_lacks None (Some y) (Some z) at count len long is p q = absurd p
 told_lacks a None (Some z) at count len long is p q = absurd q
 told_lacks (Some x) b None at count len long is p q = tt
 told_lacks None b None at count len long is p q = tt
-
-pub kept_same : {A : Type 0} (o : Option A) → Kept o o
-kept_same (Some a) = refl
-kept_same None = tt
-
-pub files_same : (seen : ℕ → Option (List ℕ)) (image : ℕ → List ℕ → Type 0) → FilesStay seen seen image image
-files_same seen image file lt = record { read = kept_same (seen file); only = λ bytes left. left; all = λ told bytes left. left }
-
-pub stays_both : {a b c : Option (List ℕ)} {i j k : List ℕ → Type 0} → Stays a b i j → Stays b c j k → Stays a c i k
-stays_both {a} {b} {c} first second = record {
-  read = kept_both a b c first.read second.read;
-  only = λ bytes left. first.only bytes (second.only bytes left);
-  all = λ told bytes left. second.all told bytes (first.all (told_too b c second.read told) bytes left);
-}
-  where
-    told_too : (b c : Option (List ℕ)) → Kept b c → IsSome c → IsSome b
-    told_too (Some x) c kept told = refl
-    told_too None (Some y) kept told = absurd kept
-    told_too None None kept told = told
 
 -- a file of fewer than 2 bytes has no record
 pub told_short : (a b : Option (List ℕ)) (len : ℕ) → len < 2 → Told a b (λ bytes _. len ≡ length bytes)

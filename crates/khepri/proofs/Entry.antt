@@ -6,7 +6,7 @@ use Rattle.kh_io.specs.declared.files.Files.{Files}
 use Rattle.kh_io.specs.Told.{Told, Kept, Extends, IsFrontOf}
 use Rattle.kh_io.specs.Disk.{file_of, AreImages, TellsFiles, FilesStay, LeavesOnly}
 use Rattle.kh_io.proofs.Moments.{started, both, weakened}
-use Rattle.kh_io.proofs.Telling.{told_map, told_both, kept_both}
+use Rattle.kh_io.proofs.Telling.{told_same, told_map, told_both, kept_both}
 use Rattle.kh_log.specs.Records.{Content}
 use Rattle.kh_log.proofs.Records.{content_of-short}
 use Rattle.kh_read.specs.declared.form.Form.{Form}
@@ -19,7 +19,6 @@ use Rattle.khepri.proofs.Recovery.{recovery_one}
 use Rattle.khepri.proofs.Scripts.{script_exists}
 use Rattle.khepri.proofs.Stands.{some_of}
 use Rattle.khepri.proofs.Open.{told_back, files_there}
-use Rattle.khepri.proofs.Lines.{told_same}
 
 -- ---- files that are told
 

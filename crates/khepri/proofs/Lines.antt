@@ -6,7 +6,7 @@ use Rattle.kh_io.specs.declared.files.Files.{Files}
 use Rattle.kh_io.specs.Told.{Told, Kept, Extends, IsFrontOf}
 use Rattle.kh_io.specs.Disk.{LeavesOnly}
 use Rattle.kh_io.proofs.Moments.{started, both, weakened}
-use Rattle.kh_io.proofs.Telling.{told_map}
+use Rattle.kh_io.proofs.Telling.{told_same, told_map}
 use Rattle.kh_text_defs.specs.Shown.{shown_line}
 use Rattle.kh_read.specs.declared.form.Form.{Form}
 use Rattle.kh_read.specs.Reading.{Cut, Fault}
@@ -53,11 +53,6 @@ told_counted None b None s0 s1 s2 k l m p q is = tt
 -- the lines so far were answered, up to this moment
 abbrev pub SoFar : Bool → List ℕ → List ℕ → State → State → Span → Option (List ℕ) → Option (List ℕ) → Type 0
 SoFar is_end bytes left old mid span sink now = Extends sink now (Served is_end bytes left old mid span)
-
--- nothing has happened
-pub told_same : (P : List ℕ → List ℕ → Type 0) (a : Option (List ℕ)) → ((x : List ℕ) → P x x) → Told a a P
-told_same P (Some x) same = same x
-told_same P None same = tt
 
 -- before the first line
 pub nothing_served : (is_end : Bool) (bytes : List ℕ) (state : State) (sink : Option (List ℕ)) (stamp moment : ℕ) (since : ℕ → Files → ℕ → Type 0)

@@ -4,7 +4,7 @@ use Rattle.std.proofs.lemmas.Bool.{cases_eq}
 use Rattle.kh_io.specs.Told.{Told, Kept}
 use Rattle.kh_io.specs.Disk.{TellsFiles, FilesStay, OthersStay}
 use Rattle.kh_io.proofs.Telling.{told_map, told_both}
-use Rattle.kh_log.proofs.Walk.{files_same}
+use Rattle.kh_io.proofs.Staying.{files_same}
 use Rattle.khepri.specs.Store.{ReadsAsBefore, WritesLogAlone}
 use Rattle.khepri.proofs.Open.{told_back}
 

@@ -1,9 +1,10 @@
 use Rattle.std.proofs.Common.{ℕ, refl, arith, rules, ◌∙◌, Err, Option}
 use Rattle.std.specs.Prelude.{IsErrOf}
 use Rattle.kh_io.proofs.Moments.{started}
-use Rattle.kh_io.proofs.Telling.{kept_both}
+use Rattle.kh_io.proofs.Telling.{kept_same, kept_both}
+use Rattle.kh_io.proofs.Staying.{files_same, stays_both}
 use Rattle.kh_log.specs.declared.error.LogError.TheVariants.{NotALog}
-use Rattle.kh_log.proofs.Walk.{told_start, still_long, walked, read_both, told_closed, told_lacks, kept_same, files_same, stays_both}
+use Rattle.kh_log.proofs.Walk.{told_start, still_long, walked, read_both, told_closed, told_lacks}
 use Rattle.kh_log.proofs.gates.last_gate.Goals as goal
 
 pub loop-next-init : goal.loop-next-init

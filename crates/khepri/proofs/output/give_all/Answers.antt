@@ -1,6 +1,6 @@
 use Rattle.std.proofs.Common.{◌∙◌, arith}
 use Rattle.kh_io.proofs.Telling.{kept_both}
-use Rattle.kh_log.proofs.Walk.{stays_both}
+use Rattle.kh_io.proofs.Staying.{stays_both}
 use Rattle.khepri.proofs.Giving.{giving_goes_on, untouched_goes_on}
 use Rattle.khepri.proofs.output.give_all.Goals as goal
 

@@ -2,10 +2,11 @@ use Rattle.std.proofs.Common.{◌≡◌, ◌+◌, ℕ, length, Ok, Some, refl, a
 use Rattle.std.specs.Prelude.{slice_get, IfSome}
 use Rattle.kh_io.specs.Told.{Told}
 use Rattle.kh_io.proofs.Moments.{started}
-use Rattle.kh_io.proofs.Telling.{kept_both}
+use Rattle.kh_io.proofs.Telling.{kept_same, kept_both}
+use Rattle.kh_io.proofs.Staying.{files_same, stays_both}
 use Rattle.kh_log.specs.Records.{records_of}
 use Rattle.kh_log.specs.Log.{Place, Holds}
-use Rattle.kh_log.proofs.Walk.{kept_same, files_same, stays_both, read_both}
+use Rattle.kh_log.proofs.Walk.{read_both}
 use Rattle.khepri.specs.Recovery.{IsNoRecord}
 use Rattle.khepri.specs.Opening.{IsRecord}
 use Rattle.khepri.specs.State.{State}

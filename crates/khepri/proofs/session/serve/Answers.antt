@@ -1,8 +1,7 @@
 use Rattle.std.proofs.Common.{◌≡◌, ◌∙◌, length, drop, refl, arith}
 use Rattle.std.proofs.lemmas.List.{drop_all}
-use Rattle.kh_io.proofs.Telling.{kept_both}
+use Rattle.kh_io.proofs.Telling.{kept_same, kept_both}
 use Rattle.khepri.specs.Store.{state_of}
-use Rattle.kh_log.proofs.Walk.{kept_same}
 use Rattle.khepri.proofs.Stands.{stands_recovers}
 use Rattle.khepri.proofs.LogAlone.{untouched, written_then}
 use Rattle.khepri.proofs.Admitted.{line_is_command}

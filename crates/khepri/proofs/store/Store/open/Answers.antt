@@ -2,7 +2,7 @@ use Rattle.std.proofs.Common.{◌≡◌, ◌<◌, Err, Some, inl, sym, ap, arith
 use Rattle.kh_io.specs.Disk.{TellsFiles}
 use Rattle.kh_io.proofs.Moments.{both, weakened, images_stay}
 use Rattle.kh_log.specs.Records.{records_of, lacking_in}
-use Rattle.kh_log.proofs.Walk.{stays_both}
+use Rattle.kh_io.proofs.Staying.{stays_both}
 use Rattle.khepri.specs.State.{empty}
 use Rattle.khepri.specs.Recovery.{Recovered, Damaged, Replays, ReplaysUnless}
 use Rattle.khepri.specs.Store.{Opening}
