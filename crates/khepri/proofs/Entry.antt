@@ -14,11 +14,12 @@ use Rattle.khepri.specs.State.{State, empty, text_of}
 use Rattle.khepri.specs.Recovery.{Recovery, Recovered, Damaged, ends, ReplaysUnless, Recovers}
 use Rattle.khepri.specs.Store.{FilesTold, IsShort, Opening, ReadsAsBefore}
 use Rattle.khepri.specs.Session.{Untouched, KeepsAnswered}
-use Rattle.khepri.specs.Run.{IsCutOff, AtEntry, Never, Ran, Ends, damage_line, Runs, FindsDamage}
+use Rattle.khepri.specs.Run.{AtEntry, Never, Ran, Ends, damage_line, Runs, FindsDamage}
 use Rattle.khepri.proofs.Recovery.{recovery_one}
 use Rattle.khepri.proofs.Scripts.{script_exists}
 use Rattle.khepri.proofs.Stands.{some_of}
 use Rattle.khepri.proofs.Open.{told_back, files_there}
+use Rattle.khepri.proofs.LogAlone.{all_left}
 
 -- ---- files that are told
 
@@ -46,8 +47,8 @@ short_is_empty seen files found are short recovers =
 opening_keeps : (seen : ℕ → Option (List ℕ)) (image : ℕ → List ℕ → Type 0) (given : ℕ) (files : Files) (first : State) (forms : List Form)
     → AreSeen seen files → Recovers files (Recovered first) → (left : Files) (s : ℕ) → Opening seen image given left s
     → AtEntry image given left s ⊎ KeepsAnswered first forms given left s
-opening_keeps seen image given files first forms are recovers left s opening = elim opening.left [
-  | inl images ↦ inl (images, opening.stamp)
+opening_keeps seen image given files first forms are recovers left s opening = elim opening.log [
+  | inl log ↦ inl (all_left image left log opening.others, opening.stamp)
   | inr short ↦ inr (record {
     k = 0;
     within = omega arith;
@@ -58,8 +59,8 @@ opening_keeps seen image given files first forms are recovers left s opening = e
 
 damaged_left : (seen : ℕ → Option (List ℕ)) (image : ℕ → List ℕ → Type 0) (given : ℕ) (files : Files) (file offset : ℕ) → AreSeen seen files
     → Recovers files (Damaged file offset) → (left : Files) (s : ℕ) → Opening seen image given left s → AreImages image left
-damaged_left seen image given files file offset are recovers left s opening = elim opening.left [
-  | inl images ↦ images
+damaged_left seen image given files file offset are recovers left s opening = elim opening.log [
+  | inl log ↦ all_left image left log opening.others
   | inr short ↦ absurd (apart (short_is_empty seen files (Damaged file offset) are short.1 recovers))
 ]
   where
@@ -153,7 +154,7 @@ pub runs_damaged : (file offset status : ℕ) (seen seen' seen2 : ℕ → Option
     → FilesTold seen seen' (λ files. Recovers files (Damaged file offset)) → ReadsAsBefore seen seen' → FilesStay seen' seen2 image1 image'
     → LeavesOnly m0 m1 past mid (Opening seen image e0) → LeavesOnly m1 m2 mid since (Untouched image1 e1 e2)
     → ((files : Files) → AreImages image1 files → mid m0 files e1) → Kept left0 left1 → Kept left1 left2 → Kept sink0 sink1
-    → Extends sink1 sink2 (λ given. IsFrontOf given (damage_line file offset) × (status ≡ 1 → given ≡ damage_line file offset)) → (status ≡ 1) ⊎ IsCutOff status
+    → Extends sink1 sink2 (λ given. IsFrontOf given (damage_line file offset) × (status ≡ 1 → given ≡ damage_line file offset)) → (status ≡ 1) ⊎ ((status ≡ 4) ⊎ (status ≡ 6))
     → FilesTold seen seen2 (λ files. (found : Recovery) → Recovers files found
     → Runs found status (record { stamp = e0; from = m0; to = m2; past = past; since = since }) image image' seen seen2 left0 left2 sink0 sink2)
 runs_damaged file offset status seen seen' seen2 image image1 image' left0 left1 left2 sink0 sink1 sink2 e0 e1 e2 m0 m1 m2 past mid since
@@ -171,7 +172,8 @@ runs_damaged file offset status seen seen' seen2 image image1 image' left0 left1
                   reads = λ this lt. kept_both (seen this) (seen' this) (seen2 this)
                       (damaged_reads seen seen' at_entry.0 file offset at_entry.1 at_entry.2 reads this lt) (stay this lt).read;
                   crash = both (weakened opening were) reporting (λ left s untouched. were left e1 (opening.each left e1 (now left untouched.images)));
-                  how = how;
+                  how = elim how [ inl is ↦ inl is | inr other ↦ inr (elim other [ inl is ↦ inl is | inr is ↦ inr (inr is) ]) ];
+                  disk_fault = λ e. absurd (elim how [ inl is ↦ omega arith | inr other ↦ elim other [ inl is ↦ omega arith | inr is ↦ omega arith ] ]);
                 }),
           );
     }
@@ -229,7 +231,8 @@ runs_nothing (Damaged file offset) status seen seen' image image' files left0 le
   input = input;
   reads = damaged_reads seen seen' files file offset are recovers reads;
   crash = weakened opening (damaged_left seen image stamp files file offset are recovers);
-  how = inr (inr (inr why));
+  how = inr (inr why);
+  disk_fault = λ e. sink;
 }
 
 -- the disk failed while the store was opened, or memory ran out
@@ -254,5 +257,5 @@ pub runs_untouched : (seen : ℕ → Option (List ℕ)) (image : ℕ → List �
     → Runs found 6 (record { stamp = stamp; from = moment; to = moment; past = since; since = since }) image image seen seen left left sink sink)
 runs_untouched seen image left sink stamp moment since now =
     runs_unopened 6 seen seen image image left left sink sink stamp moment moment since since (reads_same seen)
-    (started moment since (λ files s there. let is = now files s there in record { stamp = is.1; left = inl is.0 }))
+    (started moment since (λ files s there. let is = now files s there in record { stamp = is.1; log = inl (is.0 1 (omega arith)); others = λ file lt other. is.0 file lt }))
     (told_same _ left (λ bytes. refl)) (told_same _ sink (λ bytes. refl)) (inr refl)

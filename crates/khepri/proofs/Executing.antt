@@ -5,6 +5,7 @@ use Rattle.kh_io.specs.declared.files.Files.{Files}
 use Rattle.kh_io.specs.Told.{Told}
 use Rattle.kh_io.specs.Disk.{AreImages, IsSafe, LeavesOnly}
 use Rattle.kh_io.proofs.Moments.{started, weakened}
+use Rattle.kh_io.proofs.Telling.{told_map}
 use Rattle.kh_log.specs.Records.{Content, content_of, records_of}
 use Rattle.kh_log.specs.Log.{Place, Holds, moved, ImagesAre, EndsAt, IsBeforeOrAfter, Appending, whole}
 use Rattle.kh_log.proofs.Opening.{settled}
@@ -16,7 +17,7 @@ use Rattle.khepri.specs.Machine.{is_logged, after}
 use Rattle.khepri.specs.Command.{put_bytes, IsPut}
 use Rattle.khepri.specs.State.{State, empty, log_limit, store_logs, store_after}
 use Rattle.khepri.specs.Recovery.{Recovery, Recovered, Replays, ends, applies, ReplaysUnless, Recovers}
-use Rattle.khepri.specs.Store.{Opened, state_of, Stands, Executing}
+use Rattle.khepri.specs.Store.{Opened, state_of, Stands, OthersLeft, GainsRecords, Executing}
 use Rattle.khepri.proofs.Recovery.{replays_then}
 use Rattle.khepri.proofs.Stands.{left_recovers}
 
@@ -68,63 +69,102 @@ nothing_left {P} image given last m0 m1 past since bytes none run =
     ]
 
 -- while a record is written
-pub writes : (form : Form) (store : Opened) (seen : Option (List ℕ)) (image : ℕ → List ℕ → Type 0) (given m0 m1 : ℕ) (past since : ℕ → Files → ℕ → Type 0) (bytes : List ℕ)
-    → Stands store seen (image 1) → ((b : List ℕ) → seen ≡ None → image 1 b → ⊥)
+pub writes : (form : Form) (store : Opened) (seen : Option (List ℕ)) (image : ℕ → List ℕ → Type 0) (given file last m0 m1 : ℕ) (past since : ℕ → Files → ℕ → Type 0) (bytes : List ℕ) (more : List (List ℕ))
+    → file ≡ 1 → last ≡ store.place.last → more ≡ bytes ∷ [] → Stands store seen (image 1) → ((b : List ℕ) → seen ≡ None → image 1 b → ⊥)
     → Replays (state_of store) (bytes ∷ []) (Recovered (store_after form (state_of store)))
-    → ((rs : List (List ℕ)) → ((b : List ℕ) → image 1 b → EndsAt store.place.last rs b) → LeavesOnly m0 m1 past since (Appending 1 image given rs (bytes ∷ [])))
+    → ((rs : List (List ℕ)) → ((b : List ℕ) → image file b → EndsAt last rs b) → LeavesOnly m0 m1 past since (Appending file image given rs more))
     → LeavesOnly m0 m1 past since (Executing form (state_of store) given)
-writes form store (Some was) image given m0 m1 past since bytes stands untold replays run =
-    let rs = records_of was in
-    weakened (run rs (settled store.place (Some was) was refl stands.found stands.closed stands.safe)) (λ files s left. record {
-      stamp = left.stamp;
-      recovers = elim left.records [
-        | inl before ↦ inl (whole_recovers files rs (Recovered (state_of store)) before stands.recovers)
-        | inr behind ↦ inr (whole_recovers files (rs ++ bytes ∷ []) (Recovered (store_after form (state_of store))) behind
-            (replays_then empty rs (bytes ∷ []) (state_of store) (Recovered (store_after form (state_of store))) stands.recovers replays))
-      ];
-    })
-writes form store None image given m0 m1 past since bytes stands untold replays run =
-    nothing_left image given store.place.last m0 m1 past since bytes (λ b there. untold b refl there) run
+writes form store seen image given file last m0 m1 past since bytes more one same is stands untold replays run =
+    written seen stands untold (rw (one, same, is) at run)
+  where
+    written : (seen : Option (List ℕ)) → Stands store seen (image 1) → ((b : List ℕ) → seen ≡ None → image 1 b → ⊥)
+        → ((rs : List (List ℕ)) → ((b : List ℕ) → image 1 b → EndsAt store.place.last rs b) → LeavesOnly m0 m1 past since (Appending 1 image given rs (bytes ∷ [])))
+        → LeavesOnly m0 m1 past since (Executing form (state_of store) given)
+    written (Some was) stands untold run =
+        let rs = records_of was in
+        weakened (run rs (settled store.place (Some was) was refl stands.found stands.closed stands.safe)) (λ files s left. record {
+          stamp = left.stamp;
+          recovers = elim left.records [
+            | inl before ↦ inl (whole_recovers files rs (Recovered (state_of store)) before stands.recovers)
+            | inr behind ↦ inr (whole_recovers files (rs ++ bytes ∷ []) (Recovered (store_after form (state_of store))) behind
+                (replays_then empty rs (bytes ∷ []) (state_of store) (Recovered (store_after form (state_of store))) stands.recovers replays))
+          ];
+        })
+    written None stands untold run = nothing_left image given store.place.last m0 m1 past since bytes (λ b there. untold b refl there) run
 
--- and once it was written
-pub stands_after : (form : Form) (store next : Opened) (seen seen' : Option (List ℕ)) (image image' : List ℕ → Type 0) (bytes : List ℕ)
-    → Stands store seen image → Told seen seen' (λ was now. EndsAt next.place.last (records_of was ++ bytes ∷ []) now) → IsSafe seen' image'
-    → IfSome seen' (Holds next.place) → state_of next ≡ store_after form (state_of store)
-    → Replays (state_of store) (bytes ∷ []) (Recovered (store_after form (state_of store))) → Stands next seen' image'
-stands_after form store next (Some was) (Some now) image image' bytes stands told safe holds is replays = record {
-  safe = safe;
-  found = holds;
-  closed = told.gate;
-  recovers = subst (λ (t : State). Replays empty (records_of now) (Recovered t)) (sym is)
-      (subst (λ (rs : List (List ℕ)). Replays empty rs (Recovered (store_after form (state_of store)))) (sym (ap (λ (k : Content). k.records) told.content))
-      (replays_then empty (records_of was) (bytes ∷ []) (state_of store) (Recovered (store_after form (state_of store))) stands.recovers replays));
-}
-stands_after form store next None (Some now) image image' bytes stands told safe holds is replays = absurd told
-stands_after form store next seen None image image' bytes stands told safe holds is replays = record { safe = safe; found = tt; closed = tt; recovers = tt }
+-- what a crash then leaves of the other files
+pub append_leaves : (store : Opened) (seen : Option (List ℕ)) (image : ℕ → List ℕ → Type 0) (given file last m0 m1 : ℕ) (past since : ℕ → Files → ℕ → Type 0) (more : List (List ℕ))
+    → file ≡ 1 → last ≡ store.place.last → Stands store seen (image 1) → ((b : List ℕ) → seen ≡ None → image 1 b → ⊥)
+    → ((rs : List (List ℕ)) → ((b : List ℕ) → image file b → EndsAt last rs b) → LeavesOnly m0 m1 past since (Appending file image given rs more))
+    → LeavesOnly m0 m1 past since (λ files s. OthersLeft 1 image files)
+append_leaves store (Some was) image given file last m0 m1 past since more one same stands untold run =
+    let rs = records_of was in
+    let ends : (b : List ℕ) → image 1 b → EndsAt store.place.last rs b = settled store.place (Some was) was refl stands.found stands.closed stands.safe in
+    weakened (run rs (λ b there. subst (λ n. EndsAt n rs b) (sym same) (ends b (subst (λ f. image f b) one there))))
+    (λ files s left other lt elsewhere. left.others other lt (λ is. elsewhere (is ∙ one)))
+append_leaves store None image given file last m0 m1 past since more one same stands untold run =
+    weakened (run [] (λ b there. absurd (untold b refl (subst (λ f. image f b) one there)))) (λ files s left other lt elsewhere. left.others other lt (λ is. elsewhere (is ∙ one)))
+
+-- once it was written
+pub stands_after : (form : Form) (store next : Opened) (seen seen' : ℕ → Option (List ℕ)) (image image' : ℕ → List ℕ → Type 0) (file : ℕ) (bytes : List ℕ) (more : List (List ℕ))
+    → file ≡ 1 → more ≡ bytes ∷ [] → Stands store (seen 1) (image 1)
+    → Told (seen file) (seen' file) (λ was now. EndsAt next.place.last (records_of was ++ more) now) → IsSafe (seen' file) (image' file)
+    → IfSome (seen' file) (Holds next.place) → state_of next ≡ store_after form (state_of store)
+    → Replays (state_of store) (bytes ∷ []) (Recovered (store_after form (state_of store))) → Stands next (seen' 1) (image' 1)
+stands_after form store next seen seen' image image' file bytes more one is stands told safe holds state replays =
+    written (seen 1) (seen' 1) stands (rw (one, is) at told) (rw one at safe) (rw one at holds)
+  where
+    written : (was now : Option (List ℕ)) → Stands store was (image 1) → Told was now (λ was now. EndsAt next.place.last (records_of was ++ bytes ∷ []) now) → IsSafe now (image' 1)
+        → IfSome now (Holds next.place) → Stands next now (image' 1)
+    written (Some was) (Some now) stands told safe holds = record {
+      safe = safe;
+      found = holds;
+      closed = told.gate;
+      recovers = subst (λ (t : State). Replays empty (records_of now) (Recovered t)) (sym state)
+          (subst (λ (rs : List (List ℕ)). Replays empty rs (Recovered (store_after form (state_of store)))) (sym (ap (λ (k : Content). k.records) told.content))
+          (replays_then empty (records_of was) (bytes ∷ []) (state_of store) (Recovered (store_after form (state_of store))) stands.recovers replays));
+    }
+    written None (Some now) stands told safe holds = absurd told
+    written was None stands told safe holds = record { safe = safe; found = tt; closed = tt; recovers = tt }
+
+-- and the log has one record more
+pub gains_one : (seen seen' : ℕ → Option (List ℕ)) (file last : ℕ) (bytes : List ℕ) (rs : List (List ℕ)) → file ≡ 1 → rs ≡ bytes ∷ []
+    → Told (seen file) (seen' file) (λ was now. EndsAt last (records_of was ++ rs) now) → Told (seen 1) (seen' 1) GainsRecords
+gains_one seen seen' file last bytes rs one same appended = told_map (seen 1) (seen' 1)
+    (subst (λ f. Told (seen f) (seen' f) (λ was now. EndsAt last (records_of was ++ rs) now)) one appended)
+    (λ was now ends. inr (rs, omega (arith, ap length same), ap (λ (k : Content). k.records) ends.content))
+
+-- These bytes are the record of a put that is logged.
+pub record IsLogged (path : List Name) (number : ℤ) (s : State) (bytes : List ℕ) : Type 0 where
+  pub put : IsPut bytes path number
+  pub logs : store_logs (form.Put path number) s ≡ true
+  pub replays : Replays s (bytes ∷ []) (Recovered (store_after (form.Put path number) s))
 
 -- a put that the log and the tree have room for is logged
-pub logs_it : (path : List Name) (number : ℤ) (store inside : Opened) (bytes : List ℕ) (at len : ℕ) → inside ≡ store → IsPut bytes path number
-    → nat_le (at + 6 + len) log_limit ≡ true → at ≡ inside.place.last → len ≡ length bytes → is_logged (form.Put path number) inside.nodes ≡ true
-    → store_logs (form.Put path number) (state_of store) ≡ true
-logs_it path number store inside bytes at len same put room last long logged =
+pub logs_it : (path : List Name) (number sent : ℤ) (store inside : Opened) (bytes : List ℕ) (at len : ℕ) → sent ≡ number → inside ≡ store → IsPut bytes path sent
+    → nat_le (at + 6 + len) log_limit ≡ true → at ≡ inside.place.last → len ≡ length bytes → is_logged (form.Put path sent) inside.nodes ≡ true
+    → IsLogged path number (state_of store) bytes
+logs_it path number sent store inside bytes at len is same packed room last long fits =
+    let put : IsPut bytes path number = subst (λ (z : ℤ). IsPut bytes path z) is packed in
     let there : at + 6 + len ≡ store.place.last + 6 + length (put_bytes path number) = omega (arith, last, ap (λ (s : Opened). s.place.last) same, long, ap length put.packed) in
     let first : nat_le (store.place.last + 6 + length (put_bytes path number)) log_limit ≡ true = ap (λ n. nat_le n log_limit) (sym there) ∙ room in
-    let second : is_logged (form.Put path number) store.nodes ≡ true = ap (λ (s : Opened). is_logged (form.Put path number) s.nodes) (sym same) ∙ logged in
-    ap (λ a. a && is_logged (form.Put path number) store.nodes) first ∙ second
+    let second : is_logged (form.Put path number) store.nodes ≡ true =
+    ap (λ (z : ℤ). is_logged (form.Put path z) store.nodes) (sym is) ∙ ap (λ (s : Opened). is_logged (form.Put path sent) s.nodes) (sym same) ∙ fits in
+    let logged = ap (λ a. a && is_logged (form.Put path number) store.nodes) first ∙ second in
+    record {
+      put = put;
+      logs = logged;
+      replays = applies (state_of store) bytes path number [] _ put logged (ends (store_after (form.Put path number) (state_of store)));
+    }
 
--- and its record leads to the state after it
-pub one_record : (path : List Name) (number : ℤ) (s : State) (bytes : List ℕ) → IsPut bytes path number → store_logs (form.Put path number) s ≡ true
-    → Replays s (bytes ∷ []) (Recovered (store_after (form.Put path number) s))
-one_record path number s bytes put logs =
-    applies s bytes path number [] (Recovered (store_after (form.Put path number) s)) put logs (ends (store_after (form.Put path number) s))
-
--- which is that of the store
-pub logged_state : (path : List Name) (number : ℤ) (store inside : Opened) (bytes : List ℕ) (nodes : List Node) (log : Place) → inside ≡ store → IsPut bytes path number
-    → store_logs (form.Put path number) (state_of store) ≡ true → nodes ≡ after (form.Put path number) inside.nodes → log ≡ moved inside.place (bytes ∷ [])
+-- and the store's state is the one after it
+pub logged_state : (path : List Name) (number sent : ℤ) (store inside : Opened) (bytes : List ℕ) (nodes : List Node) (log : Place) (more : List (List ℕ)) → sent ≡ number → inside ≡ store
+    → IsLogged path number (state_of store) bytes → nodes ≡ after (form.Put path sent) inside.nodes → log ≡ moved inside.place more → more ≡ bytes ∷ []
     → state_of (record { nodes = nodes; place = log }) ≡ store_after (form.Put path number) (state_of store)
-logged_state path number store inside bytes nodes log same put logs applied appended =
-    let here : nodes ≡ after (form.Put path number) store.nodes = applied ∙ ap (λ (s : Opened). after (form.Put path number) s.nodes) same in
+logged_state path number sent store inside bytes nodes log more is same logged applied appended one =
+    let here : nodes ≡ after (form.Put path number) store.nodes =
+    applied ∙ ap (λ (z : ℤ). after (form.Put path z) inside.nodes) is ∙ ap (λ (s : Opened). after (form.Put path number) s.nodes) same in
     let last : log.last ≡ store.place.last + (5 + length (put_bytes path number)) =
-    omega (arith, ap (λ (p : Place). p.last) appended, ap (λ (s : Opened). s.place.last) same, ap length put.packed) in
+    omega (arith, ap (λ (p : Place). p.last) (appended ∙ ap (moved inside.place) one), ap (λ (s : Opened). s.place.last) same, ap length logged.put.packed) in
     (λ i. record { nodes = here i; span = last i })
-    ∙ sym (ap (λ b. cond b (record { nodes = after (form.Put path number) store.nodes; span = store.place.last + (5 + length (put_bytes path number)) }) (state_of store)) logs)
+    ∙ sym (ap (λ b. cond b (record { nodes = after (form.Put path number) store.nodes; span = store.place.last + (5 + length (put_bytes path number)) }) (state_of store)) logged.logs)

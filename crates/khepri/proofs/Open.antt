@@ -1,16 +1,17 @@
 -- A store is opened: what its calls give together.
 use Rattle.std.proofs.Common.{ℕ, zero, suc, ◌≡◌, ◌≢◌, ◌<◌, ◌≤◌, List, [], length, Option, Some, None, refl, sym, ap, subst, inl, inr, ◌∙◌, arith}
-use Rattle.std.proofs.lemmas.Bool.{cases_eq, false≢true}
+use Rattle.std.proofs.lemmas.Bool.{false≢true}
 use Rattle.std.specs.Prelude.{IfSome, IsSome, ◌⊎◌}
 use Rattle.kh_io.specs.declared.files.Files.{Files}
 use Rattle.kh_io.specs.Told.{Told, Kept}
-use Rattle.kh_io.specs.Disk.{file_of, AreImages, TellsFiles}
+use Rattle.kh_io.specs.Disk.{file_of, AreImages, TellsFiles, FilesStay, LeavesOnly}
+use Rattle.kh_io.proofs.Moments.{both, weakened, images_stay}
 use Rattle.kh_io.proofs.Telling.{told_both}
 use Rattle.kh_log.specs.declared.error.LogError.{LogError}
 use Rattle.kh_log.specs.declared.error.LogError.TheVariants as log_error
 use Rattle.khepri.specs.declared.store.OpenError.TheVariants as open_error
 use Rattle.kh_log.specs.Records.{Content, content_of, records_of, lacking_in, log_of, span, IsClosedAt}
-use Rattle.kh_log.specs.Log.{Place, Holds}
+use Rattle.kh_log.specs.Log.{Place, Holds, Reading}
 use Rattle.kh_log.proofs.Records.{content_of-short}
 use Rattle.kh_log.proofs.Opening.{nothing_ends}
 use Rattle.khepri.specs.State.{empty}
@@ -19,6 +20,21 @@ use Rattle.khepri.specs.Store.{FilesTold, IsShort, Begun, Opening}
 use Rattle.khepri.specs.Opening.{WasShort, Beginning, opening_error}
 
 -- ---- what a crash leaves
+
+-- before a log is begun
+pub synced : (seen : ℕ → Option (List ℕ)) {image : ℕ → List ℕ → Type 0} {given m0 m1 : ℕ} {past since : ℕ → Files → ℕ → Type 0}
+    → LeavesOnly m0 m1 past since (Reading image given) → LeavesOnly m0 m1 past since (Opening seen image given)
+synced seen run = weakened run (λ files s left. record {
+  stamp = left.stamp;
+  log = inl (left.images 1 (omega arith));
+  others = λ file lt other. left.images file lt;
+})
+
+-- the files are read in two calls
+pub read_on : {m0 m1 m2 given given' : ℕ} {past mid since : ℕ → Files → ℕ → Type 0} {seen seen' : ℕ → Option (List ℕ)} {image image' : ℕ → List ℕ → Type 0}
+    → LeavesOnly m0 m1 past mid (Reading image given) → LeavesOnly m1 m2 mid since (Reading image' given') → FilesStay seen seen' image image' → given' ≡ given
+    → LeavesOnly m0 m2 past since (Reading image given)
+read_on first second stay same = both first second (λ files s left. record { images = images_stay stay files left.images; stamp = left.stamp ∙ same })
 
 was_short_before : (a b : Option (List ℕ)) → Kept a b → WasShort b → IfSome a IsShort
 was_short_before (Some x) (Some y) kept short = omega (arith, short, ap length kept)
@@ -31,14 +47,15 @@ pub begins : (seen : ℕ → Option (List ℕ)) (one : Option (List ℕ)) (image
     → (files : Files) (s : ℕ) → Beginning one image' given' files s → Opening seen image given files s
 begins seen one image image' given given' kept only same files s b = record {
   stamp = b.stamp ∙ same;
-  left = elim b.left [
-    | inl images ↦ inl (λ file lt. only file lt (file_of files file) (images file lt))
+  log = elim b.log [
+    | inl there ↦ inl (only 1 (omega arith) files.l0 there)
     | inr short ↦ inr (short.0, was_short_before (seen 1) one kept short.1)
   ];
+  others = λ file lt other. only file lt (file_of files file) (b.others file lt other);
 }
 
 -- and once it was begun
-pub begun_left : (seen : ℕ → Option (List ℕ)) (one : Option (List ℕ)) (image image' image'' : ℕ → List ℕ → Type 0) (given given' : ℕ)
+begun_left : (seen : ℕ → Option (List ℕ)) (one : Option (List ℕ)) (image image' image'' : ℕ → List ℕ → Type 0) (given given' : ℕ)
     → Kept (seen 1) one → ((file : ℕ) → file < 4 → (bytes : List ℕ) → image' file bytes → image file bytes) → given' ≡ given
     → ((bytes : List ℕ) → image'' 1 bytes → image' 1 bytes ⊎ (IsShort bytes × WasShort one))
     → ((file : ℕ) → file < 4 → file ≢ 1 → (bytes : List ℕ) → image'' file bytes → image' file bytes)
@@ -46,14 +63,20 @@ pub begun_left : (seen : ℕ → Option (List ℕ)) (one : Option (List ℕ)) (i
 begun_left seen one image image' image'' given given' kept only same here others files s images stamp =
     begins seen one image image' given given' kept only same files s (record {
       stamp = stamp;
-      left = elim (here files.l0 (images 1 (omega arith))) [
-        | inl there ↦ inl (λ file lt. elim (cases_eq file 1) [
-          | inl is ↦ subst (λ f. image' f (file_of files f)) (sym is) there
-          | inr other ↦ others file lt other (file_of files file) (images file lt)
-        ])
-        | inr short ↦ inr short
-      ];
+      log = here files.l0 (images 1 (omega arith));
+      others = λ file lt other. others file lt other (file_of files file) (images file lt);
     })
+
+-- a log was begun, and the files are read
+pub opens : {m0 m1 m2 m3 : ℕ} {past mid since later : ℕ → Files → ℕ → Type 0} (seen : ℕ → Option (List ℕ)) (one : Option (List ℕ)) (image image' image'' : ℕ → List ℕ → Type 0)
+    (given given' given'' : ℕ) → LeavesOnly m0 m1 past mid (Reading image given) → LeavesOnly m1 m2 mid since (Beginning one image' given') → LeavesOnly m2 m3 since later (Reading image'' given'')
+    → Kept (seen 1) one → ((file : ℕ) → file < 4 → (bytes : List ℕ) → image' file bytes → image file bytes) → given' ≡ given → given'' ≡ given'
+    → ((bytes : List ℕ) → image'' 1 bytes → image' 1 bytes ⊎ (IsShort bytes × WasShort one))
+    → ((file : ℕ) → file < 4 → file ≢ 1 → (bytes : List ℕ) → image'' file bytes → image' file bytes)
+    → LeavesOnly m0 m3 past later (Opening seen image given)
+opens seen one image image' image'' given given' given'' made begun read kept only same same' here others =
+    both (both (synced seen made) begun (begins seen one image image' given given' kept only same)) read (λ files s left.
+    begun_left seen one image image' image'' given given' kept only same here others files s left.images (left.stamp ∙ same'))
 
 -- ---- what is told
 

@@ -36,7 +36,8 @@ tells_ending (Recovered first) status span image image' seen seen' left left_aft
       | inl e ↦ inl e
       | inr e ↦ inr (e ∙ ap ending_status (script_unique _ _ q.2.forms forms q.2.ending ending q.2.script script).1)
     ]))
-tells_ending (Damaged file offset) status span image image' seen seen' left left_after sink sink_after none ran = by_how status 1 none ran.how
+tells_ending (Damaged file offset) status span image image' seen seen' left left_after sink sink_after none ran =
+    by_how status 1 none (elim ran.how [ inl e ↦ inl e | inr unreported ↦ inr (inr unreported) ])
 
 no_rise : (before later : ℕ) → Stood before later → Rose before later → ⊥
 no_rise before later stood rose = let up = rose (rw (← stood.same) stood.room) in let same = stood.same in omega arith

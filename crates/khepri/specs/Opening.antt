@@ -2,7 +2,6 @@
 use Rattle.std.specs.Prelude.{◌≡◌, ◌⊎◌, ℕ, List, Option, Some, None, IsSome, ℤ, IsTrue}
 use Rattle.kh_term.specs.declared.name.Name.{Name}
 use Rattle.kh_io.specs.declared.files.Files.{Files}
-use Rattle.kh_io.specs.Disk.{AreImages}
 use Rattle.kh_read.specs.declared.form.Form.TheVariants as form
 use Rattle.kh_log.specs.declared.error.LogError.{LogError}
 use Rattle.kh_log.specs.declared.error.LogError.TheVariants as log_error
@@ -10,24 +9,27 @@ use Rattle.khepri.specs.declared.store.OpenError.{OpenError}
 use Rattle.khepri.specs.declared.store.OpenError.TheVariants as open_error
 use Rattle.khepri.specs.Command.{IsPut}
 use Rattle.khepri.specs.State.{State, store_logs, store_after}
-use Rattle.khepri.specs.Store.{IsShort}
+use Rattle.khepri.specs.Store.{IsShort, OthersLeft}
 
 -- the file was told, and held no log
 abbrev pub WasShort : Option (List ℕ) → Type 0
 WasShort (Some bytes) = IsShort bytes
 WasShort None = ⊥
 
--- What a crash may leave while the empty log is written: none in file 1, which was told at entry, and the stamp as it was.
-pub record LeftShort (seen : Option (List ℕ)) (given : ℕ) (files : Files) (s : ℕ) : Type 0 where
+-- What a crash may leave while the empty log is written: none in file 1, which was told at entry, each other file as a crash at entry
+-- might have left it, and the stamp as it was.
+pub record LeftShort (seen : Option (List ℕ)) (image : ℕ → List ℕ → Type 0) (given : ℕ) (files : Files) (s : ℕ) : Type 0 where
   pub told : IsSome seen
   pub stamp : s ≡ given
   pub short : IsShort files.l0
+  pub others : OthersLeft 1 image files
 
--- What a crash may leave while a log is begun: what a crash at entry might have left, or no log in file 1 where it held none.
--- The stamp is as it was.
+-- What a crash may leave while a log is begun: what a crash at entry might have left, or of file 1 alone something else, which is no log,
+-- where it held none. The stamp is as it was.
 pub record Beginning (seen : Option (List ℕ)) (image : ℕ → List ℕ → Type 0) (given : ℕ) (files : Files) (s : ℕ) : Type 0 where
   pub stamp : s ≡ given
-  pub left : AreImages image files ⊎ (IsShort files.l0 × WasShort seen)
+  pub log : image 1 files.l0 ⊎ (IsShort files.l0 × WasShort seen)
+  pub others : OthersLeft 1 image files
 
 -- These bytes are a record that the store in a state would have logged, and this is the state after it.
 pub record IsRecord (bytes : List ℕ) (old new : State) : Type 0 where

@@ -37,9 +37,13 @@ ending_status AtEnd = 0
 ending_status AtFault = 2
 ending_status Unfinished = 9
 
--- a read, a write or a call of the disk failed, or memory ran out
+-- a write or a call of the disk failed, or memory ran out
+abbrev pub IsUnreported : ℕ → Type 0
+IsUnreported status = (status ≡ 4) ⊎ ((status ≡ 5) ⊎ (status ≡ 6))
+
+-- a read failed, or one of these
 abbrev pub IsCutOff : ℕ → Type 0
-IsCutOff status = (status ≡ 3) ⊎ ((status ≡ 4) ⊎ ((status ≡ 5) ⊎ (status ≡ 6)))
+IsCutOff status = (status ≡ 3) ⊎ IsUnreported status
 
 -- what a crash at entry might have left, with the stamp of entry
 abbrev pub AtEntry : (ℕ → List ℕ → Type 0) → ℕ → Files → ℕ → Type 0
@@ -102,7 +106,9 @@ pub record Reports (file offset status : ℕ) (span : Span) (image : ℕ → Lis
   pub input : Kept left left_after
   pub reads : (this : ℕ) → this < 4 → Kept (seen this) (seen' this)
   pub crash : LeavesOnly span.from span.to span.past span.since (λ files s. AreImages image files)
-  pub how : (status ≡ 1) ⊎ IsCutOff status
+  pub how : (status ≡ 1) ⊎ IsUnreported status
+  -- 5: the disk failed before the damage was met
+  pub disk_fault : status ≡ 5 → Kept sink sink_after
 
 -- what a run does by what the files at entry recover to
 abbrev pub Runs : Recovery → ℕ → Span → (image image' : ℕ → List ℕ → Type 0) → (seen seen' : ℕ → Option (List ℕ)) → (left left_after sink sink_after : Option (List ℕ)) → Type 0

@@ -1,8 +1,8 @@
 -- A store that is open, and what a crash leaves while its calls run.
-use Rattle.std.specs.Prelude.{◌≡◌, ◌≢◌, ◌⊎◌, ℕ, ◌<◌, ◌≤◌, List, [], ◌∷◌, length, Option, Some, IfSome}
+use Rattle.std.specs.Prelude.{◌≡◌, ◌≢◌, ◌⊎◌, ℕ, ◌<◌, ◌≤◌, List, [], ◌∷◌, ◌++◌, length, Option, Some, IfSome}
 use Rattle.kh_io.specs.declared.files.Files.{Files}
 use Rattle.kh_io.specs.Told.{Told}
-use Rattle.kh_io.specs.Disk.{file_of, AreImages, TellsFiles, IsSafe}
+use Rattle.kh_io.specs.Disk.{file_of, TellsFiles, IsSafe, LeavesOnly}
 use Rattle.kh_log.specs.Records.{records_of, IsClosedAt}
 use Rattle.kh_log.specs.Log.{Place, Holds}
 use Rattle.kh_read.specs.declared.form.Form.{Form}
@@ -35,24 +35,39 @@ pub record Stands (store : Opened) (seen : Option (List ℕ)) (image : List ℕ 
 abbrev pub IsShort : List ℕ → Type 0
 IsShort bytes = length bytes < 2
 
--- What a crash while a store is opened may leave: what a crash at entry might have left, or, where file 1 held no log, none there.
--- The stamp is as it was.
+-- what a crash may leave of each file but one
+abbrev pub OthersLeft : ℕ → (ℕ → List ℕ → Type 0) → Files → Type 0
+OthersLeft this image files = (file : ℕ) → file < 4 → file ≢ this → image file (file_of files file)
+
+-- What a crash while a store is opened may leave: what a crash at entry might have left, or of file 1 alone something else, which is no
+-- log, where it held none. The stamp is as it was.
 pub record Opening (seen : ℕ → Option (List ℕ)) (image : ℕ → List ℕ → Type 0) (given : ℕ) (files : Files) (s : ℕ) : Type 0 where
   pub stamp : s ≡ given
-  pub left : AreImages image files ⊎ (IsShort files.l0 × IfSome (seen 1) IsShort)
+  pub log : image 1 files.l0 ⊎ (IsShort files.l0 × IfSome (seen 1) IsShort)
+  pub others : OthersLeft 1 image files
 
 -- What a read gives of file 1 before a log is begun in it, and after: the same where it held a log, and else the one byte `00`.
 abbrev pub Begun : (was now : List ℕ) → Type 0
 Begun was now = ((2 ≤ length was) × (now ≡ was)) ⊎ (IsShort was × (now ≡ 0 ∷ []))
 
+-- What a read gives of a log before commands are executed, and after: the same, or more records behind those that were there.
+abbrev pub GainsRecords : (was now : List ℕ) → Type 0
+GainsRecords was now = (now ≡ was) ⊎ ((more : List (List ℕ)) × (0 < length more) × (records_of now ≡ records_of was ++ more))
+
+-- what a read gives of file 1 before a run and after: a log was begun where there was none, and gained records
+abbrev pub KeepsRecords : (was now : List ℕ) → Type 0
+KeepsRecords was now = (log : List ℕ) × Begun was log × GainsRecords log now
+
 -- what a read gives after a store was opened: what it gave before, but for a file 1 that held no log
 abbrev pub ReadsAsBefore : (seen seen' : ℕ → Option (List ℕ)) → Type 0
 ReadsAsBefore seen seen' = (file : ℕ) → file < 4 → Told (seen file) (seen' file) (λ was now. (now ≡ was) ⊎ ((file ≡ 1) × IsShort was))
 
--- File 1 alone is written: of each other file a read gives what it gave, and a crash leaves nothing that it couldn't have left before.
-pub record WritesLogAlone (seen seen' : ℕ → Option (List ℕ)) (image image' : ℕ → List ℕ → Type 0) : Type 0 where
+-- File 1 alone is written: of each other file a read gives what it gave, and a crash, in the call or behind it, leaves nothing that
+-- it couldn't have left before.
+pub record WritesLogAlone (seen seen' : ℕ → Option (List ℕ)) (image image' : ℕ → List ℕ → Type 0) (before now : ℕ) (past since : ℕ → Files → ℕ → Type 0) : Type 0 where
   pub reads : (file : ℕ) → file < 4 → Told (seen file) (seen' file) (λ was now. (now ≡ was) ⊎ (file ≡ 1))
   pub images : (file : ℕ) → file < 4 → file ≢ 1 → (bytes : List ℕ) → image' file bytes → image file bytes
+  pub any_moment : LeavesOnly before now past since (λ files s. OthersLeft 1 image files)
 
 -- a crash leaves of each file what a read gives
 abbrev pub AreSafe : (seen : ℕ → Option (List ℕ)) (image : ℕ → List ℕ → Type 0) → Type 0

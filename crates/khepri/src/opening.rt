@@ -61,7 +61,7 @@ fn write_empty<H: Host>(host: &mut H) -> Result<(), Failed>
     ensures short { (bytes : List ℕ) → H.image host.new 1 bytes → IsShort bytes }
     ensures safe { OnOk result (IsSafe (H.seen host.new 1) (H.image host.new 1)) }
     ensures others { OthersStay 1 (H.seen host.old) (H.seen host.new) (H.image host.old) (H.image host.new) }
-    ensures any_moment { LeavesOnly (H.moment host.old) (H.moment host.new) (H.left_since host.old) (H.left_since host.new) (LeftShort (H.seen host.old 1) (H.stamp host.old)) }
+    ensures any_moment { LeavesOnly (H.moment host.old) (H.moment host.new) (H.left_since host.old) (H.left_since host.new) (LeftShort (H.seen host.old 1) (H.image host.old) (H.stamp host.old)) }
     ensures fault { OnErr result (Rose (H.disk_faults host.old) (H.disk_faults host.new)) }
     ensures no_fault { OnOk result (H.disk_faults host.new ≡ H.disk_faults host.old) }
     ensures faults_stand { H.disk_faults host.old ≤ H.disk_faults host.new }

@@ -1,12 +1,12 @@
 //! The forms of a script are read and answered, one after another.
-ghost use Rattle.std.specs.Prelude.{◌≡◌, ◌≤◌, IsTrue, length, drop, Err, OnOk, OnErr, IfOk, IfErr};
-ghost use Rattle.kh_io.specs.Told.{Kept, Extends, IsFrontOf, Rose};
+ghost use Rattle.std.specs.Prelude.{◌≡◌, ◌≢◌, ◌≤◌, IsTrue, length, drop, Err, OnOk, OnErr, IfOk, IfErr};
+ghost use Rattle.kh_io.specs.Told.{Told, Kept, Extends, IsFrontOf, Rose};
 ghost use Rattle.kh_io.specs.Disk.{LeavesOnly};
 ghost use Rattle.kh_text_defs.specs.Shown.{shown_line};
 ghost use Rattle.khepri.specs.Command.{is_command};
 ghost use Rattle.khepri.specs.Output.{GivesAll};
 ghost use Rattle.khepri.specs.State.{store_logs, store_reply, store_after};
-ghost use Rattle.khepri.specs.Store.{state_of, Stands, WritesLogAlone};
+ghost use Rattle.khepri.specs.Store.{state_of, Stands, GainsRecords, WritesLogAlone};
 ghost use Rattle.khepri.specs.Session.{Answering};
 ghost use Rattle.khepri.specs.Serving.{AnswerStops, ServesTo, ServeStops};
 
@@ -50,7 +50,8 @@ pub fn answer<H: Host>(
     ensures any_moment { LeavesOnly (H.moment host.old) (H.moment host.new) (H.left_since host.old) (H.left_since host.new)
         (Answering form (state_of store.old) (H.stamp host.old) (H.stamp host.new)) }
     ensures stops { IfErr result (λ stop. AnswerStops stop (Rose (H.write_faults host.old) (H.write_faults host.new)) (Rose (H.disk_faults host.old) (H.disk_faults host.new))) }
-    ensures files { WritesLogAlone (H.seen host.old) (H.seen host.new) (H.image host.old) (H.image host.new) }
+    ensures files { WritesLogAlone (H.seen host.old) (H.seen host.new) (H.image host.old) (H.image host.new) (H.moment host.old) (H.moment host.new) (H.left_since host.old) (H.left_since host.new) }
+    ensures log { result ≢ Err Stop.DiskFault → Told (H.seen host.old 1) (H.seen host.new 1) GainsRecords }
     ensures no_fault { OnOk result (H.write_faults host.new ≡ H.write_faults host.old) }
     ensures no_disk_fault { OnOk result (H.disk_faults host.new ≡ H.disk_faults host.old) }
     ensures input { Kept (H.left host.old) (H.left host.new) }
@@ -89,7 +90,8 @@ pub fn serve<H: Host>(
     ensures stops { IfErr result (λ stop. ServeStops stop is_end (drop at input.now) (state_of store.old)
         (record { stamp = H.stamp host.old; from = H.moment host.old; to = H.moment host.new; past = H.left_since host.old; since = H.left_since host.new })
         (H.given host.old) (H.given host.new) (Rose (H.write_faults host.old) (H.write_faults host.new)) (Rose (H.disk_faults host.old) (H.disk_faults host.new))) }
-    ensures files { WritesLogAlone (H.seen host.old) (H.seen host.new) (H.image host.old) (H.image host.new) }
+    ensures files { WritesLogAlone (H.seen host.old) (H.seen host.new) (H.image host.old) (H.image host.new) (H.moment host.old) (H.moment host.new) (H.left_since host.old) (H.left_since host.new) }
+    ensures log { result ≢ Err Stop.DiskFault → Told (H.seen host.old 1) (H.seen host.new 1) GainsRecords }
     ensures no_fault { OnOk result (H.write_faults host.new ≡ H.write_faults host.old) }
     ensures no_disk_fault { OnOk result (H.disk_faults host.new ≡ H.disk_faults host.old) }
     ensures input { Kept (H.left host.old) (H.left host.new) }

@@ -10,7 +10,7 @@ ghost use Rattle.khepri.specs.Opening.{opening_error};
 ghost use Rattle.khepri.specs.Command.{is_command, is_atom_path};
 ghost use Rattle.khepri.specs.State.{store_logs, store_reply, store_after};
 ghost use Rattle.khepri.specs.Recovery.{Recovered, Damaged, Recovers};
-ghost use Rattle.khepri.specs.Store.{FilesTold, state_of, Stands, AreSafe, Begun, Opening, ReadsAsBefore, WritesLogAlone, Executing};
+ghost use Rattle.khepri.specs.Store.{FilesTold, state_of, Stands, AreSafe, Begun, GainsRecords, Opening, ReadsAsBefore, WritesLogAlone, Executing};
 
 use crate::command::pack_put;
 use crate::machine::store_full;
@@ -119,7 +119,7 @@ impl Store {
         ensures safe { result ≢ Err open_error.DiskFault → AreSafe (H.seen host.new) (H.image host.new) }
         ensures begun { result ≢ Err open_error.DiskFault → Told (H.seen host.old 1) (H.seen host.new 1) Begun }
         ensures reads { ReadsAsBefore (H.seen host.old) (H.seen host.new) }
-        ensures files { WritesLogAlone (H.seen host.old) (H.seen host.new) (H.image host.old) (H.image host.new) }
+        ensures files { WritesLogAlone (H.seen host.old) (H.seen host.new) (H.image host.old) (H.image host.new) (H.moment host.old) (H.moment host.new) (H.left_since host.old) (H.left_since host.new) }
         ensures any_moment { LeavesOnly (H.moment host.old) (H.moment host.new) (H.left_since host.old) (H.left_since host.new) (Opening (H.seen host.old) (H.image host.old) (H.stamp host.old)) }
         ensures fault { result ≡ Err open_error.DiskFault → Rose (H.disk_faults host.old) (H.disk_faults host.new) }
         ensures no_fault { OnOk result (H.disk_faults host.new ≡ H.disk_faults host.old) }
@@ -147,7 +147,8 @@ impl Store {
         ensures stands { OnOk result (Stands self.new (H.seen host.new 1) (H.image host.new 1)) }
         ensures any_moment { LeavesOnly (H.moment host.old) (H.moment host.new) (H.left_since host.old) (H.left_since host.new) (Executing form (state_of self.old) (H.stamp host.old)) }
         ensures no_memory { result ≡ Err store_error.NoMemory → (self.new ≡ self.old) × (host.new ≡ host.old) }
-        ensures files { WritesLogAlone (H.seen host.old) (H.seen host.new) (H.image host.old) (H.image host.new) }
+        ensures files { WritesLogAlone (H.seen host.old) (H.seen host.new) (H.image host.old) (H.image host.new) (H.moment host.old) (H.moment host.new) (H.left_since host.old) (H.left_since host.new) }
+        ensures log { result ≢ Err store_error.DiskFault → Told (H.seen host.old 1) (H.seen host.new 1) GainsRecords }
         ensures in_doubt { result ≡ Err store_error.DiskFault → IsTrue (store_logs form (state_of self.old)) }
         ensures fault { result ≡ Err store_error.DiskFault → Rose (H.disk_faults host.old) (H.disk_faults host.new) }
         ensures no_fault { OnOk result (H.disk_faults host.new ≡ H.disk_faults host.old) }
@@ -178,7 +179,8 @@ impl Store {
         ensures stands { OnOk result (Stands self.new (H.seen host.new 1) (H.image host.new 1)) }
         ensures any_moment { LeavesOnly (H.moment host.old) (H.moment host.new) (H.left_since host.old) (H.left_since host.new) (Executing (form.Put path number) (state_of self.old) (H.stamp host.old)) }
         ensures no_memory { result ≡ Err store_error.NoMemory → (self.new ≡ self.old) × (host.new ≡ host.old) }
-        ensures files { WritesLogAlone (H.seen host.old) (H.seen host.new) (H.image host.old) (H.image host.new) }
+        ensures files { WritesLogAlone (H.seen host.old) (H.seen host.new) (H.image host.old) (H.image host.new) (H.moment host.old) (H.moment host.new) (H.left_since host.old) (H.left_since host.new) }
+        ensures log { result ≢ Err store_error.DiskFault → Told (H.seen host.old 1) (H.seen host.new 1) GainsRecords }
         ensures in_doubt { result ≡ Err store_error.DiskFault → IsTrue (store_logs (form.Put path number) (state_of self.old)) }
         ensures fault { result ≡ Err store_error.DiskFault → Rose (H.disk_faults host.old) (H.disk_faults host.new) }
         ensures no_fault { OnOk result (H.disk_faults host.new ≡ H.disk_faults host.old) }

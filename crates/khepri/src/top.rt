@@ -1,9 +1,9 @@
 //! The top call.
-ghost use Rattle.std.specs.Prelude.{◌≡◌, ◌↔◌, ◌⊎◌, false, IsTrue};
-ghost use Rattle.kh_io.specs.Told.{Rose};
+ghost use Rattle.std.specs.Prelude.{◌≡◌, ◌≢◌, ◌↔◌, ◌⊎◌, false, IsTrue};
+ghost use Rattle.kh_io.specs.Told.{Told, Rose};
 ghost use Rattle.khepri.specs.Words.{are_right};
 ghost use Rattle.khepri.specs.Recovery.{Recovery, Recovers};
-ghost use Rattle.khepri.specs.Store.{FilesTold, AreSafe, WritesLogAlone};
+ghost use Rattle.khepri.specs.Store.{FilesTold, AreSafe, KeepsRecords, WritesLogAlone};
 ghost use Rattle.khepri.specs.Run.{Runs, FindsDamage, Stood, OneScript, TellsEnding};
 
 use crate::run::run;
@@ -24,8 +24,11 @@ pub fn khepri<H: Host>(alloc: Global, words: &[String], host: &mut H) -> u8
         (record { stamp = H.stamp host.old; from = H.moment host.old; to = H.moment host.new; past = H.left_since host.old; since = H.left_since host.new })
         (H.image host.old) (H.image host.new) (H.seen host.old) (H.seen host.new) (H.left host.old) (H.left host.new) (H.given host.old) (H.given host.new)) }
 
-    // Of each file but the log a read gives what it gave, and a crash leaves nothing that it couldn't have left at entry.
-    ensures files { WritesLogAlone (H.seen host.old) (H.seen host.new) (H.image host.old) (H.image host.new) }
+    // Of each file but the log a read gives what it gave, and a crash at any moment leaves nothing that it couldn't have left at entry.
+    ensures files { WritesLogAlone (H.seen host.old) (H.seen host.new) (H.image host.old) (H.image host.new) (H.moment host.old) (H.moment host.new) (H.left_since host.old) (H.left_since host.new) }
+
+    // Unless the disk failed or memory ran out, a log was begun in file 1 where there was none, and it gained records or is as it was.
+    ensures log { result ≢ 5 → result ≢ 6 → result ≢ 7 → Told (H.seen host.old 1) (H.seen host.new 1) KeepsRecords }
 
     // After 0 and 1 a crash leaves of each file what a read gives.
     ensures safe { (result ≡ 0) ⊎ (result ≡ 1) → AreSafe (H.seen host.new) (H.image host.new) }

@@ -112,11 +112,13 @@ fn a_file_without_a_log_gets_an_empty_one(rt: HostRuntime) -> Result<(), Fail> {
     let alloc = rt.alloc();
     let rows: [&[u8]; 5] = [b"", b"\0", b"\x01", b"\xa5", b"\xff"];
     for log in rows {
-        let mut host = host_over(alloc, files_of(alloc, log)?, b"", &[])?;
-        assert_eq!(rt; run(alloc, &mut host)?, 0);
-        for fill in FILLS {
-            let after = image(&host, host.calls(), fill)?;
-            assert_eq!(rt; after.l0.as_slice(), b"\0".as_slice());
+        for script in [b"".as_slice(), GET_STOCK] {
+            let mut host = host_over(alloc, files_of(alloc, log)?, script, &[])?;
+            assert_eq!(rt; run(alloc, &mut host)?, 0);
+            for fill in FILLS {
+                let after = image(&host, host.calls(), fill)?;
+                assert_eq!(rt; after.l0.as_slice(), b"\0".as_slice());
+            }
         }
     }
     Ok(())
@@ -551,22 +553,23 @@ fn a_fault_in_the_opening_loses_nothing(rt: HostRuntime) -> Result<(), Fail> {
 #[test]
 fn a_fault_is_met_before_damage_or_in_its_line(rt: HostRuntime) -> Result<(), Fail> {
     let alloc = rt.alloc();
-    // Four syncs, two lengths and one read meet the record that lacks bytes, and call 7 gives the line.
-    let rows = [
-        (0, 5),
-        (1, 5),
-        (2, 5),
-        (3, 5),
-        (4, 5),
-        (5, 5),
-        (6, 5),
-        (7, 4),
+    // Four syncs, two lengths and one read meet the record that lacks bytes, and call 7 gives the line. There is no call 8.
+    let rows: [(u64, u8, u64, &[u8]); 9] = [
+        (0, 5, 1, b""),
+        (1, 5, 2, b""),
+        (2, 5, 3, b""),
+        (3, 5, 4, b""),
+        (4, 5, 5, b""),
+        (5, 5, 6, b""),
+        (6, 5, 7, b""),
+        (7, 4, 8, b""),
+        (8, 1, 8, b"{damaged,1,1}.\n"),
     ];
-    for (call, status) in rows {
+    for (call, status, calls, output) in rows {
         let mut host = host_over(alloc, files_of(alloc, &STOCK[..20])?, GET_STOCK, &[call])?;
         assert_eq!(rt; run(alloc, &mut host)?, status);
-        assert_eq!(rt; host.output(), b"".as_slice());
-        assert_eq!(rt; host.calls(), call.saturating_add(1));
+        assert_eq!(rt; host.output(), output);
+        assert_eq!(rt; host.calls(), calls);
     }
     Ok(())
 }

@@ -5,7 +5,7 @@ use Rattle.khepri.specs.declared.session.Stop.{Stop}
 use Rattle.khepri.specs.declared.session.Stop.TheVariants as stop
 use Rattle.khepri.specs.Store.{state_of}
 use Rattle.khepri.proofs.Stands.{stands_recovers, stands_stay}
-use Rattle.khepri.proofs.LogAlone.{untouched, files_stay, written_then, took_and_served}
+use Rattle.khepri.proofs.LogAlone.{untouched, none_touched, written_then, took_and_served, gains_nothing, gains_kept, gains_then, gains_served}
 use Rattle.khepri.proofs.Running.{view_of, starts, took_piece, took_shorter, served_on, served_stops, take_stops, all_came, finished, finish_stops, take_rose, take_reason, serve_rose}
 use Rattle.khepri.proofs.run.answer_script.Goals as goal
 
@@ -27,7 +27,8 @@ pieces-init g c =
           let now = g.met.H.Disk.only_now c.args.host.now files s left in
           (stands_recovers c.args.store.now (host.seen c.args.host.now) (host.image c.args.host.now) c.requires.stands files now.0, now.1)));
       stands = c.requires.stands;
-      files = untouched (host.seen c.args.host.now) (host.image c.args.host.now);
+      files = untouched _ _ _ _ _ (g.met.H.Disk.only_now c.args.host.now);
+      log = gains_nothing (host.seen c.args.host.now 1);
       reads = refl;
       writes = refl;
       disk = refl;
@@ -49,7 +50,13 @@ returns-in-Err-clause-ran g c =
     (stands_recovers c.pieces.store (host.seen c.pieces.host) (host.image c.pieces.host) c.pieces.invariant.stands) call.any_moment
 
 pub returns-in-Err-clause-files : goal.returns-in-Err-clause-files
-returns-in-Err-clause-files g c = written_then c.pieces.invariant.files (files_stay c.in-Err.ensures.files)
+returns-in-Err-clause-files g c = written_then c.pieces.invariant.files (none_touched c.in-Err.ensures.files c.in-Err.ensures.any_moment)
+
+pub returns-in-Err-clause-log : goal.returns-in-Err-clause-log
+returns-in-Err-clause-log g c = λ no_fault.
+    let host = g.H.Disk in
+    gains_then (host.seen c.args.host.now 1) (host.seen c.pieces.host 1) (host.seen c.take_more.new.host 1)
+    c.pieces.invariant.log (gains_kept _ _ (c.in-Err.ensures.files 1 (omega arith)).read)
 
 -- a piece is taken: the reasons why none comes
 no_other : (s : Stop) → (s ≡ stop.ReadFault) ⊎ ((s ≡ stop.TooLong) ⊎ (s ≡ stop.NoMemory)) → (s ≡ stop.Damaged) ⊎ ((s ≡ stop.WriteFault) ⊎ (s ≡ stop.DiskFault)) → ⊥
@@ -122,7 +129,9 @@ pieces-preserved g c =
       run = served_on (view c.args.host.now) (view c.take_more.new.host) (view c.serve.new.host) c.take_more.new.input.items c.pieces.at c.in-Ok.next
           (state_of c.args.store.now) (state_of c.pieces.store) (state_of c.serve.new.store) more (rw c.as_slice.ensures.value at c.in-Ok.ensures.served) c.in-Ok.ensures.input;
       stands = c.in-Ok.ensures.stands;
-      files = took_and_served c.pieces.invariant.files call.files c.in-Ok.ensures.files;
+      files = took_and_served c.pieces.invariant.files call.files call.any_moment c.in-Ok.ensures.files;
+      log = gains_served (host.seen c.args.host.now 1) (host.seen c.pieces.host 1) (host.seen c.take_more.new.host 1) (host.seen c.serve.new.host 1)
+          c.pieces.invariant.log (call.files 1 (omega arith)).read (c.in-Ok.ensures.log (λ e. cc));
       reads = c.in-Ok.ensures.read_faults ∙ call.no_fault ∙ c.pieces.invariant.reads;
       writes = c.in-Ok.ensures.no_fault ∙ call.write_faults ∙ c.pieces.invariant.writes;
       disk = c.in-Ok.ensures.no_disk_fault ∙ call.disk_faults ∙ c.pieces.invariant.disk;
@@ -141,7 +150,14 @@ returns-in-Err-serve-clause-ran g c =
     c.in-Err-serve.ensures.input
 
 pub returns-in-Err-serve-clause-files : goal.returns-in-Err-serve-clause-files
-returns-in-Err-serve-clause-files g c = took_and_served c.pieces.invariant.files c.in-Ok-Some.ensures.files c.in-Err-serve.ensures.files
+returns-in-Err-serve-clause-files g c =
+    took_and_served c.pieces.invariant.files c.in-Ok-Some.ensures.files c.in-Ok-Some.ensures.any_moment c.in-Err-serve.ensures.files
+
+pub returns-in-Err-serve-clause-log : goal.returns-in-Err-serve-clause-log
+returns-in-Err-serve-clause-log g c = λ no_fault.
+    let host = g.H.Disk in
+    gains_served (host.seen c.args.host.now 1) (host.seen c.pieces.host 1) (host.seen c.take_more.new.host 1) (host.seen c.serve.new.host 1)
+    c.pieces.invariant.log (c.in-Ok-Some.ensures.files 1 (omega arith)).read (c.in-Err-serve.ensures.log (λ e. no_fault cc))
 
 pub returns-in-Err-serve-clause-damage : goal.returns-in-Err-serve-clause-damage
 returns-in-Err-serve-clause-damage g c e =
@@ -195,7 +211,14 @@ returns-in-Ok-serve-clause-ran g c =
     (stands_recovers c.serve-2.new.store (host.seen c.serve-2.new.host) (host.image c.serve-2.new.host) c.in-Ok-serve.ensures.stands)
 
 pub returns-in-Ok-serve-clause-files : goal.returns-in-Ok-serve-clause-files
-returns-in-Ok-serve-clause-files g c = took_and_served c.pieces.invariant.files c.in-Ok-None.ensures.files c.in-Ok-serve.ensures.files
+returns-in-Ok-serve-clause-files g c =
+    took_and_served c.pieces.invariant.files c.in-Ok-None.ensures.files c.in-Ok-None.ensures.any_moment c.in-Ok-serve.ensures.files
+
+pub returns-in-Ok-serve-clause-log : goal.returns-in-Ok-serve-clause-log
+returns-in-Ok-serve-clause-log g c = λ no_fault.
+    let host = g.H.Disk in
+    gains_served (host.seen c.args.host.now 1) (host.seen c.pieces.host 1) (host.seen c.take_more.new.host 1) (host.seen c.serve-2.new.host 1)
+    c.pieces.invariant.log (c.in-Ok-None.ensures.files 1 (omega arith)).read (c.in-Ok-serve.ensures.log (λ e. cc))
 
 pub returns-in-Ok-serve-clause-stands : goal.returns-in-Ok-serve-clause-stands
 returns-in-Ok-serve-clause-stands g c = c.in-Ok-serve.ensures.stands
@@ -226,7 +249,14 @@ returns-clause-ran g c =
     (rw (c.as_slice-2.ensures.value, none.0) at c.in-Err-serve-2.ensures.stops) c.in-Err-serve-2.ensures.input
 
 pub returns-clause-files : goal.returns-clause-files
-returns-clause-files g c = took_and_served c.pieces.invariant.files c.in-Ok-None.ensures.files c.in-Err-serve-2.ensures.files
+returns-clause-files g c =
+    took_and_served c.pieces.invariant.files c.in-Ok-None.ensures.files c.in-Ok-None.ensures.any_moment c.in-Err-serve-2.ensures.files
+
+pub returns-clause-log : goal.returns-clause-log
+returns-clause-log g c = λ no_fault.
+    let host = g.H.Disk in
+    gains_served (host.seen c.args.host.now 1) (host.seen c.pieces.host 1) (host.seen c.take_more.new.host 1) (host.seen c.serve-2.new.host 1)
+    c.pieces.invariant.log (c.in-Ok-None.ensures.files 1 (omega arith)).read (c.in-Err-serve-2.ensures.log (λ e. no_fault cc))
 
 pub returns-clause-damage : goal.returns-clause-damage
 returns-clause-damage g c e =

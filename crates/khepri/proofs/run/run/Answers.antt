@@ -6,10 +6,10 @@ use Rattle.khepri.specs.declared.session.Stop.{Stop}
 use Rattle.khepri.specs.declared.session.Stop.TheVariants as stop
 use Rattle.khepri.specs.declared.store.OpenError.{OpenError}
 use Rattle.khepri.specs.declared.store.OpenError.TheVariants as open_error
-use Rattle.khepri.specs.Run.{stop_status, run_status, IsCutOff, damage_line}
+use Rattle.khepri.specs.Run.{stop_status, run_status, damage_line}
 use Rattle.khepri.specs.Store.{Opened, state_of, Stands}
 use Rattle.khepri.proofs.Entry.{runs_opened, runs_damaged, runs_unopened, runs_untouched, finds_damage}
-use Rattle.khepri.proofs.LogAlone.{untouched, files_stay, written_then, written_tells}
+use Rattle.khepri.proofs.LogAlone.{untouched, none_touched, written_then, written_tells, gains_kept, keeps_then}
 use Rattle.khepri.proofs.Safe.{all_safe, log_safe}
 use Rattle.khepri.proofs.run.run.Goals as goal
 
@@ -29,10 +29,10 @@ abbrev Reported : Stop → Type 0
 Reported s = (s ≡ stop.Damaged) ⊎ ((s ≡ stop.WriteFault) ⊎ (s ≡ stop.NoMemory))
 
 -- the status of a report
-reported : (s : Stop) → Reported s → (stop_status s ≡ 1) ⊎ IsCutOff (stop_status s)
+reported : (s : Stop) → Reported s → (stop_status s ≡ 1) ⊎ ((stop_status s ≡ 4) ⊎ (stop_status s ≡ 6))
 reported s (inl e) = inl (ap stop_status e)
-reported s (inr (inl e)) = inr (inr (inl (ap stop_status e)))
-reported s (inr (inr e)) = inr (inr (inr (inr (ap stop_status e))))
+reported s (inr (inl e)) = inr (inl (ap stop_status e))
+reported s (inr (inr e)) = inr (inr (ap stop_status e))
 
 is_damage : (s : Stop) → stop_status s ≡ 1 → s ≡ stop.Damaged
 is_damage stop.Damaged e = refl
@@ -139,13 +139,13 @@ returns-clause-ran g c =
     opened.reads opened.any_moment opened.input opened.sink (inr refl)
 
 pub returns-in_default-clause-files : goal.returns-in_default-clause-files
-returns-in_default-clause-files g c = let host = g.H.Disk in untouched (host.seen c.args.host.now) (host.image c.args.host.now)
+returns-in_default-clause-files g c = untouched _ _ _ _ _ (g.met.H.Disk.only_now c.args.host.now)
 
 pub returns-in-Ok-open-clause-files : goal.returns-in-Ok-open-clause-files
 returns-in-Ok-open-clause-files g c = written_then c.in-Ok-open.ensures.files c.answer_script.ensures.files
 
 pub returns-in-Err-Damaged-clause-files : goal.returns-in-Err-Damaged-clause-files
-returns-in-Err-Damaged-clause-files g c = written_then c.in-Err-Damaged.ensures.files (files_stay c.report.ensures.files)
+returns-in-Err-Damaged-clause-files g c = written_then c.in-Err-Damaged.ensures.files (none_touched c.report.ensures.files c.report.ensures.any_moment)
 
 stops_above_0 : (s : Stop) → 1 ≤ stop_status s
 stops_above_0 stop.Damaged = omega arith
@@ -180,3 +180,16 @@ returns-in-Ok-open-clause-safe g c status =
 pub returns-in-Err-Damaged-clause-safe : goal.returns-in-Err-Damaged-clause-safe
 returns-in-Err-Damaged-clause-safe g c status =
     all_safe (c.in-Err-Damaged.ensures.safe (damaged_whole c.in-Err-Damaged.field-0-is)) c.report.ensures.files (g.met.H.Disk.untold_is_not_left c.report.new.host)
+
+-- a log was begun, and gained what the script logs
+pub returns-in-Ok-open-clause-log : goal.returns-in-Ok-open-clause-log
+returns-in-Ok-open-clause-log g c = λ no_fault enough.
+    let host = g.H.Disk in
+    keeps_then (host.seen c.args.host.now 1) (host.seen c.open.new.host 1) (host.seen c.answer_script.new.host 1)
+    (c.in-Ok-open.ensures.begun (opened_whole c.in-Ok-open.store)) (c.answer_script.ensures.log no_fault)
+
+pub returns-in-Err-Damaged-clause-log : goal.returns-in-Err-Damaged-clause-log
+returns-in-Err-Damaged-clause-log g c = λ no_fault enough.
+    let host = g.H.Disk in
+    keeps_then (host.seen c.args.host.now 1) (host.seen c.open.new.host 1) (host.seen c.report.new.host 1)
+    (c.in-Err-Damaged.ensures.begun (damaged_whole c.in-Err-Damaged.field-0-is)) (gains_kept _ _ (c.report.ensures.files 1 (omega arith)).read)

@@ -1,7 +1,7 @@
-use Rattle.std.proofs.Common.{◌∙◌, ap}
+use Rattle.std.proofs.Common.{◌∙◌, ap, arith}
 use Rattle.kh_text_defs.specs.Shown.{shown_line}
 use Rattle.khepri.proofs.Answering.{none_given, front_given, answered}
-use Rattle.khepri.proofs.LogAlone.{written_then, files_stay}
+use Rattle.khepri.proofs.LogAlone.{written_then, none_touched, gains_then, gains_kept}
 use Rattle.khepri.proofs.session.answer.Goals as goal
 
 pub returns-in-Err-DiskFault-clause-front : goal.returns-in-Err-DiskFault-clause-front
@@ -23,7 +23,7 @@ returns-in-Ok-give_all-clause-any_moment g c =
     c.in-Ok.ensures.stands c.in-Ok.ensures.after c.execute.ensures.any_moment c.give_all.ensures.any_moment
 
 pub returns-in-Ok-give_all-clause-files : goal.returns-in-Ok-give_all-clause-files
-returns-in-Ok-give_all-clause-files g c = written_then c.execute.ensures.files (files_stay c.give_all.ensures.files)
+returns-in-Ok-give_all-clause-files g c = written_then c.execute.ensures.files (none_touched c.give_all.ensures.files c.give_all.ensures.any_moment)
 
 pub returns-clause-front : goal.returns-clause-front
 returns-clause-front g c =
@@ -38,4 +38,17 @@ returns-clause-any_moment g c =
     c.in-Ok.ensures.stands c.in-Ok.ensures.after c.execute.ensures.any_moment c.give_all.ensures.any_moment
 
 pub returns-clause-files : goal.returns-clause-files
-returns-clause-files g c = written_then c.execute.ensures.files (files_stay c.give_all.ensures.files)
+returns-clause-files g c = written_then c.execute.ensures.files (none_touched c.give_all.ensures.files c.give_all.ensures.any_moment)
+
+-- the log gains what the command logs
+pub returns-in-Ok-give_all-clause-log : goal.returns-in-Ok-give_all-clause-log
+returns-in-Ok-give_all-clause-log g c = λ no_fault.
+    let host = g.H.Disk in
+    gains_then (host.seen c.args.host.now 1) (host.seen c.execute.new.host 1) (host.seen c.give_all.new.host 1) (c.in-Ok.ensures.log (λ e. cc))
+    (gains_kept _ _ (c.give_all.ensures.files 1 (omega arith)).read)
+
+pub returns-clause-log : goal.returns-clause-log
+returns-clause-log g c = λ no_fault.
+    let host = g.H.Disk in
+    gains_then (host.seen c.args.host.now 1) (host.seen c.execute.new.host 1) (host.seen c.give_all.new.host 1) (c.in-Ok.ensures.log (λ e. cc))
+    (gains_kept _ _ (c.give_all.ensures.files 1 (omega arith)).read)

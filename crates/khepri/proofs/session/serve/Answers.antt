@@ -3,7 +3,7 @@ use Rattle.std.proofs.lemmas.List.{drop_all}
 use Rattle.kh_io.proofs.Telling.{kept_same, kept_both}
 use Rattle.khepri.specs.Store.{state_of}
 use Rattle.khepri.proofs.Stands.{stands_recovers}
-use Rattle.khepri.proofs.LogAlone.{untouched, written_then}
+use Rattle.khepri.proofs.LogAlone.{untouched, written_then, gains_nothing, gains_then}
 use Rattle.khepri.proofs.Admitted.{line_is_command}
 use Rattle.khepri.proofs.Lines.{counts, nothing_served, one_line, no_reply, to_fault, to_cut, to_front, some_left, rests_at_end, rests_cut}
 use Rattle.khepri.proofs.session.serve.Goals as goal
@@ -17,7 +17,8 @@ lines-init g c =
           let now = g.met.H.Disk.only_now c.args.host.now files s left in
           (stands_recovers c.args.store.now (host.seen c.args.host.now) (host.image c.args.host.now) c.requires.stands files now.0, now.1));
       stands = c.requires.stands;
-      files = untouched (host.seen c.args.host.now) (host.image c.args.host.now);
+      files = untouched _ _ _ _ _ (g.met.H.Disk.only_now c.args.host.now);
+      log = gains_nothing (host.seen c.args.host.now 1);
       no_fault = refl;
       no_disk_fault = refl;
       input = kept_same (host.left c.args.host.now);
@@ -57,6 +58,7 @@ lines-preserved g c =
           before.given line.0 call.given call.any_moment call.after;
       stands = call.stands;
       files = written_then before.files call.files;
+      log = gains_then (host.seen c.args.host.now 1) (host.seen c.lines.host 1) (host.seen c.answer.new.host 1) before.log (call.log (λ e. cc));
       no_fault = call.no_fault ∙ before.no_fault;
       no_disk_fault = call.no_disk_fault ∙ before.no_disk_fault;
       input = kept_both (host.left c.args.host.now) (host.left c.lines.host) (host.left c.answer.new.host) before.input call.input;
@@ -104,3 +106,9 @@ returns-in-Err-clause-stops g c =
 
 pub returns-in-Err-answer-clause-files : goal.returns-in-Err-answer-clause-files
 returns-in-Err-answer-clause-files g c = written_then c.lines.invariant.files c.in-Err-answer.ensures.files
+
+pub returns-in-Err-answer-clause-log : goal.returns-in-Err-answer-clause-log
+returns-in-Err-answer-clause-log g c = λ no_fault.
+    let host = g.H.Disk in
+    gains_then (host.seen c.args.host.now 1) (host.seen c.lines.host 1) (host.seen c.answer.new.host 1) c.lines.invariant.log
+    (c.in-Err-answer.ensures.log (λ e. no_fault cc))

@@ -1,6 +1,6 @@
 use Rattle.std.proofs.Common.{◌≡◌, ◌-◌, ◌≤◌, length, drop}
-use Rattle.kh_io.specs.Told.{Kept}
-use Rattle.khepri.specs.Store.{state_of, Stands, WritesLogAlone}
+use Rattle.kh_io.specs.Told.{Told, Kept}
+use Rattle.khepri.specs.Store.{state_of, Stands, GainsRecords, WritesLogAlone}
 use Rattle.khepri.proofs.Lines.{SoFar, span_to}
 use Rattle.khepri.proofs.session.serve.Given as goal
 
@@ -13,7 +13,9 @@ invariant-lines g l =
           (span_to (host.stamp l.fn.host) (host.moment l.fn.host) (host.moment l.host) (host.left_since l.fn.host) (host.left_since l.host))
           (host.given l.fn.host) (host.given l.host);
       stands : Stands l.store (host.seen l.host 1) (host.image l.host 1);
-      files : WritesLogAlone (host.seen l.fn.host) (host.seen l.host) (host.image l.fn.host) (host.image l.host);
+      files : WritesLogAlone (host.seen l.fn.host) (host.seen l.host) (host.image l.fn.host) (host.image l.host)
+          (host.moment l.fn.host) (host.moment l.host) (host.left_since l.fn.host) (host.left_since l.host);
+      log : Told (host.seen l.fn.host 1) (host.seen l.host 1) GainsRecords;
       no_fault : host.write_faults l.host ≡ host.write_faults l.fn.host;
       no_disk_fault : host.disk_faults l.host ≡ host.disk_faults l.fn.host;
       input : Kept (host.left l.fn.host) (host.left l.host);

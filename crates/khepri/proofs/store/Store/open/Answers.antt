@@ -1,14 +1,13 @@
-use Rattle.std.proofs.Common.{◌≡◌, ◌<◌, Err, Some, inl, sym, ap, arith, ◌∙◌}
+use Rattle.std.proofs.Common.{◌≡◌, ◌<◌, Err, Some, sym, ap, arith}
 use Rattle.kh_io.specs.Disk.{TellsFiles}
-use Rattle.kh_io.proofs.Moments.{both, weakened, images_stay}
+use Rattle.kh_io.proofs.Moments.{both}
 use Rattle.kh_log.specs.Records.{records_of, lacking_in}
 use Rattle.kh_io.proofs.Staying.{stays_both}
 use Rattle.khepri.specs.State.{empty}
 use Rattle.khepri.specs.Recovery.{Recovered, Damaged, Replays, ReplaysUnless}
-use Rattle.khepri.specs.Store.{Opening}
 use Rattle.khepri.proofs.Safe.{still_safe, all_safe, log_safe}
-use Rattle.khepri.proofs.Open.{begins, begun_left, told_back, files_told, content_before, lacking_before, replays_before, lacks_at, lacks_recovers, closed_there, there_still, begun_between}
-use Rattle.khepri.proofs.LogAlone.{none_written, files_stay, log_begun, written_then}
+use Rattle.khepri.proofs.Open.{synced, begins, opens, read_on, told_back, files_told, content_before, lacking_before, replays_before, lacks_at, lacks_recovers, closed_there, there_still, begun_between}
+use Rattle.khepri.proofs.LogAlone.{read_alone, synced_alone, begun_alone, written_then}
 use Rattle.khepri.proofs.store.Store.open.Goals as goal
 
 -- while a log is begun
@@ -16,51 +15,31 @@ pub returns-in_err-begin_log-clause-any_moment : goal.returns-in_err-begin_log-c
 returns-in_err-begin_log-clause-any_moment g c =
     let host = g.H.Disk in
     let s = c.sync_all.ensures in
-    let synced = weakened {Q = Opening (host.seen c.args.host.now) (host.image c.args.host.now) (host.stamp c.args.host.now)} s.any_moment
-    (λ files at left. record { stamp = left.stamp; left = inl left.images }) in
-    both synced c.begin_log.ensures.any_moment (begins _ _ _ _ _ _ (s.reads 1 (omega arith)) s.no_new_images s.stamp)
+    both (synced (host.seen c.args.host.now) s.any_moment) c.begin_log.ensures.any_moment (begins _ _ _ _ _ _ (s.reads 1 (omega arith)) s.no_new_images s.stamp)
 
 pub returns-in_err-log-clause-any_moment : goal.returns-in_err-log-clause-any_moment
 returns-in_err-log-clause-any_moment g c =
     let host = g.H.Disk in
     let s = c.sync_all.ensures in
     let b = c.begin_log.ensures in
-    let synced = weakened {Q = Opening (host.seen c.args.host.now) (host.image c.args.host.now) (host.stamp c.args.host.now)} s.any_moment
-    (λ files at left. record { stamp = left.stamp; left = inl left.images }) in
-    let begun = both synced b.any_moment (begins _ _ _ _ _ _ (s.reads 1 (omega arith)) s.no_new_images s.stamp) in
-    both begun c.open.ensures.any_moment (λ files at left.
-    begun_left _ _ _ _ (host.image c.begin_log.new.host) _ _ (s.reads 1 (omega arith)) s.no_new_images s.stamp b.images (λ file lt other. (b.others file lt other).only)
-    files at left.images (left.stamp ∙ b.stamp))
+    opens (host.seen c.args.host.now) _ _ _ (host.image c.begin_log.new.host) _ _ _ s.any_moment b.any_moment c.open.ensures.any_moment (s.reads 1 (omega arith)) s.no_new_images s.stamp b.stamp
+    b.images (λ file lt other. (b.others file lt other).only)
 
 pub returns-in_err-tree-clause-any_moment : goal.returns-in_err-tree-clause-any_moment
 returns-in_err-tree-clause-any_moment g c =
     let host = g.H.Disk in
     let s = c.sync_all.ensures in
     let b = c.begin_log.ensures in
-    let synced = weakened {Q = Opening (host.seen c.args.host.now) (host.image c.args.host.now) (host.stamp c.args.host.now)} s.any_moment
-    (λ files at left. record { stamp = left.stamp; left = inl left.images }) in
-    let begun = both synced b.any_moment (begins _ _ _ _ _ _ (s.reads 1 (omega arith)) s.no_new_images s.stamp) in
-    let opened = both begun c.open.ensures.any_moment (λ files at left.
-    begun_left _ _ _ _ (host.image c.begin_log.new.host) _ _ (s.reads 1 (omega arith)) s.no_new_images s.stamp b.images (λ file lt other. (b.others file lt other).only)
-    files at left.images (left.stamp ∙ b.stamp)) in
-    both opened c.replay.ensures.any_moment (λ files at left.
-    begun_left _ _ _ _ (host.image c.begin_log.new.host) _ _ (s.reads 1 (omega arith)) s.no_new_images s.stamp b.images (λ file lt other. (b.others file lt other).only)
-    files at (images_stay c.open.ensures.files files left.images) (left.stamp ∙ c.open.ensures.stamp ∙ b.stamp))
+    opens (host.seen c.args.host.now) _ _ _ (host.image c.begin_log.new.host) _ _ _ s.any_moment b.any_moment (read_on c.open.ensures.any_moment c.replay.ensures.any_moment c.open.ensures.files c.open.ensures.stamp) (s.reads 1 (omega arith)) s.no_new_images s.stamp b.stamp
+    b.images (λ file lt other. (b.others file lt other).only)
 
 pub returns-clause-any_moment : goal.returns-clause-any_moment
 returns-clause-any_moment g c =
     let host = g.H.Disk in
     let s = c.sync_all.ensures in
     let b = c.begin_log.ensures in
-    let synced = weakened {Q = Opening (host.seen c.args.host.now) (host.image c.args.host.now) (host.stamp c.args.host.now)} s.any_moment
-    (λ files at left. record { stamp = left.stamp; left = inl left.images }) in
-    let begun = both synced b.any_moment (begins _ _ _ _ _ _ (s.reads 1 (omega arith)) s.no_new_images s.stamp) in
-    let opened = both begun c.open.ensures.any_moment (λ files at left.
-    begun_left _ _ _ _ (host.image c.begin_log.new.host) _ _ (s.reads 1 (omega arith)) s.no_new_images s.stamp b.images (λ file lt other. (b.others file lt other).only)
-    files at left.images (left.stamp ∙ b.stamp)) in
-    both opened c.replay.ensures.any_moment (λ files at left.
-    begun_left _ _ _ _ (host.image c.begin_log.new.host) _ _ (s.reads 1 (omega arith)) s.no_new_images s.stamp b.images (λ file lt other. (b.others file lt other).only)
-    files at (images_stay c.open.ensures.files files left.images) (left.stamp ∙ c.open.ensures.stamp ∙ b.stamp))
+    opens (host.seen c.args.host.now) _ _ _ (host.image c.begin_log.new.host) _ _ _ s.any_moment b.any_moment (read_on c.open.ensures.any_moment c.replay.ensures.any_moment c.open.ensures.files c.open.ensures.stamp) (s.reads 1 (omega arith)) s.no_new_images s.stamp b.stamp
+    b.images (λ file lt other. (b.others file lt other).only)
 
 pub returns-in_err-log-clause-damaged : goal.returns-in_err-log-clause-damaged
 returns-in_err-log-clause-damaged g c = λ file offset is.
@@ -121,44 +100,54 @@ returns-clause-stands g c =
 
 -- file 1 alone is written
 pub returns-in_err-sync_all-clause-files : goal.returns-in_err-sync_all-clause-files
-returns-in_err-sync_all-clause-files g c = none_written c.sync_all.ensures.reads c.sync_all.ensures.no_new_images
+returns-in_err-sync_all-clause-files g c = let s = c.sync_all.ensures in synced_alone s.reads s.no_new_images s.any_moment
 
 pub returns-in_err-begin_log-clause-files : goal.returns-in_err-begin_log-clause-files
 returns-in_err-begin_log-clause-files g c =
-    written_then (none_written c.sync_all.ensures.reads c.sync_all.ensures.no_new_images) (log_begun c.begin_log.ensures.reads c.begin_log.ensures.others)
+    let s = c.sync_all.ensures in
+    let b = c.begin_log.ensures in
+    written_then (synced_alone s.reads s.no_new_images s.any_moment) (begun_alone b.reads b.others b.any_moment)
 
 pub returns-in_err-log-clause-files : goal.returns-in_err-log-clause-files
 returns-in_err-log-clause-files g c =
-    written_then (none_written c.sync_all.ensures.reads c.sync_all.ensures.no_new_images)
-    (written_then (log_begun c.begin_log.ensures.reads c.begin_log.ensures.others) (files_stay c.open.ensures.files))
+    let s = c.sync_all.ensures in
+    let b = c.begin_log.ensures in
+    written_then (synced_alone s.reads s.no_new_images s.any_moment) (written_then (begun_alone b.reads b.others b.any_moment) (read_alone c.open.ensures.files c.open.ensures.any_moment))
 
 pub returns-in_err-tree-clause-files : goal.returns-in_err-tree-clause-files
 returns-in_err-tree-clause-files g c =
-    written_then (none_written c.sync_all.ensures.reads c.sync_all.ensures.no_new_images)
-    (written_then (log_begun c.begin_log.ensures.reads c.begin_log.ensures.others) (written_then (files_stay c.open.ensures.files) (files_stay c.replay.ensures.files)))
+    let s = c.sync_all.ensures in
+    let b = c.begin_log.ensures in
+    written_then (synced_alone s.reads s.no_new_images s.any_moment) (written_then (begun_alone b.reads b.others b.any_moment)
+    (written_then (read_alone c.open.ensures.files c.open.ensures.any_moment) (read_alone c.replay.ensures.files c.replay.ensures.any_moment)))
 
 pub returns-clause-files : goal.returns-clause-files
 returns-clause-files g c =
-    written_then (none_written c.sync_all.ensures.reads c.sync_all.ensures.no_new_images)
-    (written_then (log_begun c.begin_log.ensures.reads c.begin_log.ensures.others) (written_then (files_stay c.open.ensures.files) (files_stay c.replay.ensures.files)))
+    let s = c.sync_all.ensures in
+    let b = c.begin_log.ensures in
+    written_then (synced_alone s.reads s.no_new_images s.any_moment) (written_then (begun_alone b.reads b.others b.any_moment)
+    (written_then (read_alone c.open.ensures.files c.open.ensures.any_moment) (read_alone c.replay.ensures.files c.replay.ensures.any_moment)))
 
 -- all files are safe once a log is begun
 pub returns-in_err-log-clause-safe : goal.returns-in_err-log-clause-safe
 returns-in_err-log-clause-safe g c = λ no_fault.
     let untold = g.met.H.Disk.untold_is_not_left in
-    let begun = log_safe c.in_ok-sync_all.ensures.safe (log_begun c.begin_log.ensures.reads c.begin_log.ensures.others) c.in_ok-begin_log.ensures.safe (untold c.begin_log.new.host) in
+    let b = c.begin_log.ensures in
+    let begun = log_safe c.in_ok-sync_all.ensures.safe (begun_alone b.reads b.others b.any_moment) c.in_ok-begin_log.ensures.safe (untold c.begin_log.new.host) in
     all_safe begun c.open.ensures.files (untold c.open.new.host)
 
 pub returns-in_err-tree-clause-safe : goal.returns-in_err-tree-clause-safe
 returns-in_err-tree-clause-safe g c = λ no_fault.
     let untold = g.met.H.Disk.untold_is_not_left in
-    let begun = log_safe c.in_ok-sync_all.ensures.safe (log_begun c.begin_log.ensures.reads c.begin_log.ensures.others) c.in_ok-begin_log.ensures.safe (untold c.begin_log.new.host) in
+    let b = c.begin_log.ensures in
+    let begun = log_safe c.in_ok-sync_all.ensures.safe (begun_alone b.reads b.others b.any_moment) c.in_ok-begin_log.ensures.safe (untold c.begin_log.new.host) in
     all_safe (all_safe begun c.open.ensures.files (untold c.open.new.host)) c.replay.ensures.files (untold c.replay.new.host)
 
 pub returns-clause-safe : goal.returns-clause-safe
 returns-clause-safe g c = λ no_fault.
     let untold = g.met.H.Disk.untold_is_not_left in
-    let begun = log_safe c.in_ok-sync_all.ensures.safe (log_begun c.begin_log.ensures.reads c.begin_log.ensures.others) c.in_ok-begin_log.ensures.safe (untold c.begin_log.new.host) in
+    let b = c.begin_log.ensures in
+    let begun = log_safe c.in_ok-sync_all.ensures.safe (begun_alone b.reads b.others b.any_moment) c.in_ok-begin_log.ensures.safe (untold c.begin_log.new.host) in
     all_safe (all_safe begun c.open.ensures.files (untold c.open.new.host)) c.replay.ensures.files (untold c.replay.new.host)
 
 -- and a read of file 1 gives a log
