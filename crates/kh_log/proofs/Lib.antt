@@ -4,3 +4,5 @@ pub mod Writes
 pub mod Opening
 pub mod Headers
 pub mod Walk
+pub mod Calling
+pub mod Places

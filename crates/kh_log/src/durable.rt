@@ -2,6 +2,7 @@
 ghost use Rattle.std.specs.Prelude.{◌≡◌, ◌≤◌, ◌<◌, ◌+◌, ◌^◌, ◌++◌, ℕ, List, length, IfSome, OnOk, OnErr};
 ghost use Rattle.kh_io.specs.Told.{Told, Kept, Rose};
 ghost use Rattle.kh_io.specs.Disk.{put, Torn, OthersStay, IsSafe, LeavesOnly};
+ghost use Rattle.kh_log.specs.Calls.{Grows};
 ghost use Rattle.kh_log.specs.Log.{Writing, Appending, EndsAt, IsGroup, IsBeforeOrAfter};
 
 use crate::OPEN;
@@ -32,6 +33,7 @@ pub(crate) fn write_durably<D: Disk>(
     ensures sink { Kept (D.given disk.old) (D.given disk.new) }
     ensures read_faults { D.read_faults disk.new ≡ D.read_faults disk.old }
     ensures write_faults { D.write_faults disk.new ≡ D.write_faults disk.old }
+    ensures grows { Grows (D.journal disk.old) (D.journal disk.new) }
 {
     disk.write_at(file, at, bytes)?;
     disk.sync(file)
@@ -65,6 +67,7 @@ pub(crate) fn open_behind<D: Disk>(
     ensures sink { Kept (D.given disk.old) (D.given disk.new) }
     ensures read_faults { D.read_faults disk.new ≡ D.read_faults disk.old }
     ensures write_faults { D.write_faults disk.new ≡ D.write_faults disk.old }
+    ensures grows { Grows (D.journal disk.old) (D.journal disk.new) }
 {
     write_durably(disk, file, last + 1, bytes)?;
     // What stands behind the gate has to be on the disk first: behind a gate that is torn open it counts.

@@ -1,9 +1,11 @@
 //! The gates of a file, one after the other.
-ghost use Rattle.std.specs.Prelude.{◌≡◌, ◌≤◌, ◌<◌, ◌+◌, ◌-◌, ◌*◌, ◌^◌, ℕ, List, [], length, take, drop, None, Some, IfSome, IfNone, IfOk, OnOk, OnErr, IsErrOf};
-ghost use Rattle.kh_io.specs.Told.{Told, Kept, Rose};
+ghost use Rattle.std.specs.Prelude.{◌≡◌, ◌≤◌, ◌<◌, ◌+◌, ◌-◌, ◌*◌, ◌^◌, ℕ, List, [], length, take, drop, All, Option, None, Some, IfSome, IfNone, IfOk, OnOk, OnErr, IsErrOf};
+ghost use Rattle.kh_io.specs.Call.{ReadAt, answered_len};
+ghost use Rattle.kh_io.specs.Told.{Told, Kept, Gains, Extends, Rose};
 ghost use Rattle.kh_io.specs.Disk.{FilesStay, LeavesOnly, IsReadAt};
 ghost use Rattle.kh_log.specs.Records.{length_of, lacking_in, records_of, span, IsClosedAt, IsOpenAt, LacksAt, record_at};
 ghost use Rattle.kh_log.specs.Log.{EndsAt, Reading};
+ghost use Rattle.kh_log.specs.Calls.{Reads, IsOfGate, IsBefore, EndInFault};
 
 use crate::{LogError, OPEN};
 use byteorder::{BigEndian, ByteOrder};
@@ -40,6 +42,7 @@ pub(crate) fn gate_behind<D: Disk>(
     ensures sink { Kept (D.given disk.old) (D.given disk.new) }
     ensures read_faults { D.read_faults disk.new ≡ D.read_faults disk.old }
     ensures write_faults { D.write_faults disk.new ≡ D.write_faults disk.old }
+    ensures call { (bytes : Option (List ℕ)) × Gains (D.journal disk.old) (D.journal disk.new) (ReadAt file at 5 bytes) × (answered_len bytes ≤ 5) × (IsErrOf result LogError.DiskFault → bytes ≡ None) }
 {
     let mut header = [0u8; HEADER];
     let count = disk.read_at(file, at, &mut header)?;
@@ -101,6 +104,9 @@ pub(crate) fn last_gate<D: Disk>(disk: &mut D, file: u8, len: u64) -> Result<(u6
     ensures sink { Kept (D.given disk.old) (D.given disk.new) }
     ensures read_faults { D.read_faults disk.new ≡ D.read_faults disk.old }
     ensures write_faults { D.write_faults disk.new ≡ D.write_faults disk.old }
+    ensures gates { Told (D.seen disk.old file) (D.seen disk.new file) (λ was _. Extends (D.journal disk.old) (D.journal disk.new) (All (Reads file (IsOfGate (records_of was) (length (records_of was) + 1))))) }
+    ensures gates_at_fault { IsErrOf result LogError.DiskFault → Told (D.seen disk.old file) (D.seen disk.new file) (λ was _. Extends (D.journal disk.old) (D.journal disk.new)
+        (λ calls. EndInFault calls × All (Reads file (IsOfGate (records_of was) (length (records_of was)))) calls)) }
 {
     let mut count = 0;
     let mut at = 0;
@@ -132,6 +138,9 @@ pub(crate) fn count_records<D: Disk>(disk: &mut D, file: u8) -> Result<(u64, u64
     ensures sink { Kept (D.given disk.old) (D.given disk.new) }
     ensures read_faults { D.read_faults disk.new ≡ D.read_faults disk.old }
     ensures write_faults { D.write_faults disk.new ≡ D.write_faults disk.old }
+    ensures gates { Told (D.seen disk.old file) (D.seen disk.new file) (λ was _. Extends (D.journal disk.old) (D.journal disk.new) (All (Reads file (IsOfGate (records_of was) (length (records_of was) + 1))))) }
+    ensures gates_at_fault { IsErrOf result LogError.DiskFault → Told (D.seen disk.old file) (D.seen disk.new file) (λ was _. Extends (D.journal disk.old) (D.journal disk.new)
+        (λ calls. EndInFault calls × All (Reads file (IsOfGate (records_of was) (length (records_of was)))) calls)) }
 {
     let len = disk.len(file)?;
     if len < 2 {
@@ -167,6 +176,8 @@ pub(crate) fn record_bytes<D: Disk>(
     ensures sink { Kept (D.given disk.old) (D.given disk.new) }
     ensures read_faults { D.read_faults disk.new ≡ D.read_faults disk.old }
     ensures write_faults { D.write_faults disk.new ≡ D.write_faults disk.old }
+    ensures calls { IfOk result (λ bytes. Extends (D.journal disk.old) (D.journal disk.new) (All (Reads file (IsBefore (at + 6 + length bytes.items))))) }
+    ensures calls_at_fault { IsErrOf result LogError.DiskFault → Extends (D.journal disk.old) (D.journal disk.new) (λ calls. EndInFault calls × All (Reads file (IsBefore (at + 5))) calls) }
 {
     let length = length_behind(disk, file, at, last)?;
     bytes_at(alloc, disk, file, at, length as usize)
@@ -193,6 +204,7 @@ fn length_behind<D: Disk>(disk: &mut D, file: u8, at: u64, last: u64) -> Result<
     ensures sink { Kept (D.given disk.old) (D.given disk.new) }
     ensures read_faults { D.read_faults disk.new ≡ D.read_faults disk.old }
     ensures write_faults { D.write_faults disk.new ≡ D.write_faults disk.old }
+    ensures call { (bytes : Option (List ℕ)) × Gains (D.journal disk.old) (D.journal disk.new) (ReadAt file (at + 1) 4 bytes) × (answered_len bytes ≤ 4) × (IsErrOf result LogError.DiskFault → bytes ≡ None) }
 {
     let mut header = [0u8; 4];
     let count = disk.read_at(file, at + 1, &mut header)?;
@@ -231,6 +243,8 @@ fn bytes_at<D: Disk>(
     ensures sink { Kept (D.given disk.old) (D.given disk.new) }
     ensures read_faults { D.read_faults disk.new ≡ D.read_faults disk.old }
     ensures write_faults { D.write_faults disk.new ≡ D.write_faults disk.old }
+    ensures calls { IfOk result (λ bytes. Extends (D.journal disk.old) (D.journal disk.new) (All (Reads file (IsBefore (at + 6 + length bytes.items))))) }
+    ensures calls_at_fault { IsErrOf result LogError.DiskFault → Extends (D.journal disk.old) (D.journal disk.new) (λ calls. EndInFault calls × All (Reads file (IsBefore (at + 5))) calls) }
 {
     let mut bytes = vec![in alloc; 0u8; count]?;
     let found = disk.read_at(file, at + 5, &mut bytes)?;

@@ -1,9 +1,10 @@
 //! The log.
-ghost use Rattle.std.specs.Prelude.{◌≡◌, ◌≤◌, ◌<◌, ◌+◌, ◌^◌, ◌++◌, ℕ, List, [], length, slice_get, Some, IfSome, IfNone, IfOk, OnOk, OnErr, IsErrOf};
-ghost use Rattle.kh_io.specs.Told.{Told, Kept, Rose};
+ghost use Rattle.std.specs.Prelude.{◌≡◌, ◌≤◌, ◌<◌, ◌+◌, ◌^◌, ◌++◌, ℕ, List, [], length, slice_get, All, Some, IfSome, IfNone, IfOk, OnOk, OnErr, IsErrOf};
+ghost use Rattle.kh_io.specs.Told.{Told, Kept, Extends, Rose};
 ghost use Rattle.kh_io.specs.Disk.{FilesStay, OthersStay, IsSafe, LeavesOnly};
 ghost use Rattle.kh_log.specs.Records.{content_of, records_of, lacking_in, log_of, span, IsClosedAt};
 ghost use Rattle.kh_log.specs.Log.{Place, Holds, EndsAt, IsBeforeOrAfter, Appending, Reading, ImagesAre, moved, passed, begun_at, whole};
+ghost use Rattle.kh_log.specs.Calls.{Grows, Reads, IsOfGate, IsBefore, EndInFault};
 
 use crate::durable::open_behind;
 use crate::gates::{count_records, record_bytes};
@@ -93,6 +94,10 @@ impl Log {
         ensures sink { Kept (H.given host.old) (H.given host.new) }
         ensures read_faults { H.read_faults host.new ≡ H.read_faults host.old }
         ensures write_faults { H.write_faults host.new ≡ H.write_faults host.old }
+        // It reads the gates and the lengths behind them, and where the disk fails not yet the last.
+        ensures gates { Told (H.seen host.old file) (H.seen host.new file) (λ was _. Extends (H.journal host.old) (H.journal host.new) (All (Reads file (IsOfGate (records_of was) (length (records_of was) + 1))))) }
+        ensures gates_at_fault { IsErrOf result LogError.DiskFault → Told (H.seen host.old file) (H.seen host.new file) (λ was _. Extends (H.journal host.old) (H.journal host.new)
+            (λ calls. EndInFault calls × All (Reads file (IsOfGate (records_of was) (length (records_of was)))) calls)) }
     {
         let (records, last) = count_records(host, file)?;
         Ok(Log {
@@ -146,6 +151,10 @@ impl Log {
         ensures sink { Kept (H.given host.old) (H.given host.new) }
         ensures read_faults { H.read_faults host.new ≡ H.read_faults host.old }
         ensures write_faults { H.write_faults host.new ≡ H.write_faults host.old }
+        // It reads nothing behind the next gate, and where the disk fails nothing of the record's bytes yet.
+        ensures calls { OnOk result (Extends (H.journal host.old) (H.journal host.new) (All (Reads self.old.file (IsBefore (self.new.next + 1))))) }
+        ensures calls_at_fault { IsErrOf result LogError.DiskFault → Extends (H.journal host.old) (H.journal host.new)
+            (λ calls. EndInFault calls × All (Reads self.old.file (IsBefore (self.old.next + 5))) calls) }
     {
         if self.read == self.records {
             return Ok(None);
@@ -185,6 +194,7 @@ impl Log {
         ensures sink { Kept (H.given host.old) (H.given host.new) }
         ensures read_faults { H.read_faults host.new ≡ H.read_faults host.old }
         ensures write_faults { H.write_faults host.new ≡ H.write_faults host.old }
+        ensures grows { Grows (H.journal host.old) (H.journal host.new) }
     {
         open_behind(host, self.file, self.last, &r.bytes)?;
         self.last += r.bytes.len() as u64;
