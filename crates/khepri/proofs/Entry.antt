@@ -3,22 +3,26 @@ use Rattle.std.proofs.Common.{◌≡◌, ℕ, ◌<◌, List, [], ◌++◌, Optio
 use Rattle.std.specs.Prelude.{IfSome}
 use Rattle.std.proofs.lemmas.List.{append-nil}
 use Rattle.kh_io.specs.declared.files.Files.{Files}
+use Rattle.kh_io.specs.Call.{Call}
 use Rattle.kh_io.specs.Told.{Told, Kept, Extends, IsFrontOf}
 use Rattle.kh_io.specs.Disk.{file_of, AreImages, TellsFiles, FilesStay, LeavesOnly}
 use Rattle.kh_io.proofs.Moments.{started, both, weakened}
-use Rattle.kh_io.proofs.Telling.{told_same, told_map, told_both, kept_both}
+use Rattle.kh_io.proofs.Telling.{told_same, told_map, told_both, kept_both, extends_both}
 use Rattle.kh_log.specs.Records.{Content}
 use Rattle.kh_log.proofs.Records.{content_of-short}
 use Rattle.kh_read.specs.declared.form.Form.{Form}
 use Rattle.khepri.specs.State.{State, empty, text_of}
 use Rattle.khepri.specs.Recovery.{Recovery, Recovered, Damaged, ends, ReplaysUnless, Recovers}
 use Rattle.khepri.specs.Store.{FilesTold, IsShort, Opening, ReadsAsBefore}
+use Rattle.khepri.specs.Damage.{FailBefore, FailInside}
+use Rattle.khepri.specs.Opening.{OpenedBy}
 use Rattle.khepri.specs.Session.{Untouched, KeepsAnswered}
 use Rattle.khepri.specs.Run.{AtEntry, Never, Ran, Ends, damage_line, Runs, FindsDamage}
 use Rattle.khepri.proofs.Recovery.{recovery_one}
 use Rattle.khepri.proofs.Scripts.{script_exists}
 use Rattle.khepri.proofs.Stands.{some_of}
-use Rattle.khepri.proofs.Open.{told_back, files_there}
+use Rattle.khepri.proofs.Open.{told_back, of_told, files_there}
+use Rattle.khepri.proofs.Calls.{inside_later, opened_takes_nothing}
 use Rattle.khepri.proofs.LogAlone.{all_left}
 
 -- ---- files that are told
@@ -108,18 +112,18 @@ ends_opened first status seen image image' files left0 left1 left2 sink0 sink1 s
 
 -- a run over files that recover to a state
 pub runs_opened : (first : State) (status : ℕ) (seen seen' seen2 : ℕ → Option (List ℕ)) (image image' : ℕ → List ℕ → Type 0)
-    (left0 left1 left2 sink0 sink1 sink2 : Option (List ℕ)) (e0 e1 m0 m1 m2 : ℕ) (past mid since : ℕ → Files → ℕ → Type 0)
+    (left0 left1 left2 sink0 sink1 sink2 : Option (List ℕ)) (journal0 journal2 : Option (List Call)) (e0 e1 m0 m1 m2 : ℕ) (past mid since : ℕ → Files → ℕ → Type 0)
     → FilesTold seen seen' (λ files. Recovers files (Recovered first)) → (TellsFiles seen2 → TellsFiles seen') → e1 ≡ e0
     → LeavesOnly m0 m1 past mid (Opening seen image e0) → Kept left0 left1 → Kept sink0 sink1
     → Ends first status Never (record { stamp = e1; from = m1; to = m2; past = mid; since = since }) image' left1 left2 sink1 sink2
     → FilesTold seen seen2 (λ files. (found : Recovery) → Recovers files found
-    → Runs found status (record { stamp = e0; from = m0; to = m2; past = past; since = since }) image image' seen seen2 left0 left2 sink0 sink2)
-runs_opened first status seen seen' seen2 image image' left0 left1 left2 sink0 sink1 sink2 e0 e1 m0 m1 m2 past mid since recovered told same opening input sink ran = record {
+    → Runs found status files (record { stamp = e0; from = m0; to = m2; past = past; since = since }) image image' seen seen2 left0 left2 sink0 sink2 journal0 journal2)
+runs_opened first status seen seen' seen2 image image' left0 left1 left2 sink0 sink1 sink2 journal0 journal2 e0 e1 m0 m1 m2 past mid since recovered told same opening input sink ran = record {
   told = λ tells.
       let at_entry = recovered.told (told tells) in (
         at_entry.0,
         at_entry.1,
-        λ found recovers. subst (λ (r : Recovery). Runs r status (record { stamp = e0; from = m0; to = m2; past = past; since = since }) image image' seen seen2 left0 left2 sink0 sink2)
+        λ found recovers. subst (λ (r : Recovery). Runs r status at_entry.0 (record { stamp = e0; from = m0; to = m2; past = past; since = since }) image image' seen seen2 left0 left2 sink0 sink2 journal0 journal2)
             (recovery_one at_entry.0 (Recovered first) found at_entry.2 recovers)
             (ends_opened first status seen image image' at_entry.0 left0 left1 left2 sink0 sink1 sink2 e0 m0 m1 m2 past mid since at_entry.1 at_entry.2 opening input sink
             (subst (λ (e : ℕ). Ends first status Never (record { stamp = e; from = m1; to = m2; past = mid; since = since }) image' left1 left2 sink1 sink2) same ran)),
@@ -150,21 +154,24 @@ damaged_reads seen seen' files file offset are recovers reads this lt =
 
 -- the report of damaged files, from its parts
 pub runs_damaged : (file offset status : ℕ) (seen seen' seen2 : ℕ → Option (List ℕ)) (image image1 image' : ℕ → List ℕ → Type 0)
-    (left0 left1 left2 sink0 sink1 sink2 : Option (List ℕ)) (e0 e1 e2 m0 m1 m2 : ℕ) (past mid since : ℕ → Files → ℕ → Type 0)
+    (left0 left1 left2 sink0 sink1 sink2 : Option (List ℕ)) (journal0 journal1 journal2 : Option (List Call)) (e0 e1 e2 m0 m1 m2 : ℕ) (past mid since : ℕ → Files → ℕ → Type 0)
     → FilesTold seen seen' (λ files. Recovers files (Damaged file offset)) → ReadsAsBefore seen seen' → FilesStay seen' seen2 image1 image'
     → LeavesOnly m0 m1 past mid (Opening seen image e0) → LeavesOnly m1 m2 mid since (Untouched image1 e1 e2)
     → ((files : Files) → AreImages image1 files → mid m0 files e1) → Kept left0 left1 → Kept left1 left2 → Kept sink0 sink1
     → Extends sink1 sink2 (λ given. IsFrontOf given (damage_line file offset) × (status ≡ 1 → given ≡ damage_line file offset)) → (status ≡ 1) ⊎ ((status ≡ 4) ⊎ (status ≡ 6))
+    → Told (seen 1) (seen' 1) (λ was _. Extends journal0 journal1 (OpenedBy was)) → (status ≡ 4 → Extends journal1 journal2 (FailInside (damage_line file offset)))
     → FilesTold seen seen2 (λ files. (found : Recovery) → Recovers files found
-    → Runs found status (record { stamp = e0; from = m0; to = m2; past = past; since = since }) image image' seen seen2 left0 left2 sink0 sink2)
-runs_damaged file offset status seen seen' seen2 image image1 image' left0 left1 left2 sink0 sink1 sink2 e0 e1 e2 m0 m1 m2 past mid since
-    damaged reads stay opening reporting now input input' sink line how = record {
+    → Runs found status files (record { stamp = e0; from = m0; to = m2; past = past; since = since }) image image' seen seen2 left0 left2 sink0 sink2 journal0 journal2)
+runs_damaged file offset status seen seen' seen2 image image1 image' left0 left1 left2 sink0 sink1 sink2 journal0 journal1 journal2 e0 e1 e2 m0 m1 m2 past mid since
+    damaged reads stay opening reporting now input input' sink line how opened failed = record {
       told = λ tells.
-          let at_entry = damaged.told (λ this lt. told_back _ (seen' this) (seen2 this) (stay this lt).read (tells this lt)) in
+          let told : TellsFiles seen' = λ this lt. told_back _ (seen' this) (seen2 this) (stay this lt).read (tells this lt) in
+          let at_entry = damaged.told told in
+          let calls = of_told (λ was. Extends journal0 journal1 (OpenedBy was)) (seen 1) (seen' 1) at_entry.0.l0 (at_entry.1 1 (omega arith)) (told 1 (omega arith)) opened in
           let were = damaged_left seen image e0 at_entry.0 file offset at_entry.1 at_entry.2 in (
             at_entry.0,
             at_entry.1,
-            λ found recovers. subst (λ (r : Recovery). Runs r status (record { stamp = e0; from = m0; to = m2; past = past; since = since }) image image' seen seen2 left0 left2 sink0 sink2)
+            λ found recovers. subst (λ (r : Recovery). Runs r status at_entry.0 (record { stamp = e0; from = m0; to = m2; past = past; since = since }) image image' seen seen2 left0 left2 sink0 sink2 journal0 journal2)
                 (recovery_one at_entry.0 (Damaged file offset) found at_entry.2 recovers)
                 (record {
                   line = told_both sink0 sink1 sink2 sink line (λ x y z same given. (given.0, given.1 ∙ ap (λ (t : List ℕ). t ++ given.0) same, given.2));
@@ -173,6 +180,8 @@ runs_damaged file offset status seen seen' seen2 image image1 image' left0 left1
                       (damaged_reads seen seen' at_entry.0 file offset at_entry.1 at_entry.2 reads this lt) (stay this lt).read;
                   crash = both (weakened opening were) reporting (λ left s untouched. were left e1 (opening.each left e1 (now left untouched.images)));
                   how = elim how [ inl is ↦ inl is | inr other ↦ inr (elim other [ inl is ↦ inl is | inr is ↦ inr (inr is) ]) ];
+                  write_fault = λ e. extends_both (OpenedBy at_entry.0.l0) (FailInside (damage_line file offset)) (FailInside (damage_line file offset)) journal0 journal1 journal2 calls (failed e)
+                      (λ first later by inside. inside_later (damage_line file offset) first later (opened_takes_nothing at_entry.0.l0 first by) inside);
                   disk_fault = λ e. absurd (elim how [ inl is ↦ omega arith | inr other ↦ elim other [ inl is ↦ omega arith | inr is ↦ omega arith ] ]);
                 }),
           );
@@ -211,18 +220,23 @@ ran_nothing first status seen image image' files input stamp m0 m1 past since ar
       last = λ e. absurd (elim why [ inl f ↦ omega arith | inr f ↦ omega arith ]);
     }
 
+-- where the files are damaged, the calls fail before that is met
+abbrev pub FailsOver : (journal journal' : Option (List Call)) → Files → Type 0
+FailsOver journal journal' files = (file offset : ℕ) → Recovers files (Damaged file offset) → Extends journal journal' (FailBefore files.l0 offset)
+
 runs_nothing : (found : Recovery) (status : ℕ) (seen seen' : ℕ → Option (List ℕ)) (image image' : ℕ → List ℕ → Type 0) (files : Files)
-    (left0 left1 sink0 sink1 : Option (List ℕ)) (stamp m0 m1 : ℕ) (past since : ℕ → Files → ℕ → Type 0) → AreSeen seen files → Recovers files found
+    (left0 left1 sink0 sink1 : Option (List ℕ)) (journal0 journal1 : Option (List Call)) (stamp m0 m1 : ℕ) (past since : ℕ → Files → ℕ → Type 0) → AreSeen seen files → Recovers files found
     → ReadsAsBefore seen seen' → LeavesOnly m0 m1 past since (Opening seen image stamp) → Kept left0 left1 → Kept sink0 sink1 → (status ≡ 5) ⊎ (status ≡ 6)
-    → Runs found status (record { stamp = stamp; from = m0; to = m1; past = past; since = since }) image image' seen seen' left0 left1 sink0 sink1
-runs_nothing (Recovered first) status seen seen' image image' files left0 left1 sink0 sink1 stamp m0 m1 past since are recovers reads opening input sink why =
+    → (status ≡ 5 → FailsOver journal0 journal1 files)
+    → Runs found status files (record { stamp = stamp; from = m0; to = m1; past = past; since = since }) image image' seen seen' left0 left1 sink0 sink1 journal0 journal1
+runs_nothing (Recovered first) status seen seen' image image' files left0 left1 sink0 sink1 journal0 journal1 stamp m0 m1 past since are recovers reads opening input sink why fails =
     told_map left0 left1 input (λ a b same. told_map sink0 sink1 sink (λ x y same'. (
       [],
       same' ∙ sym (append-nil x),
       subst (λ (r : List ℕ). Ran first status (AtEntry image stamp) (record { stamp = stamp; from = m0; to = m1; past = past; since = since }) image' a r []) (sym same)
           (ran_nothing first status seen image image' files a stamp m0 m1 past since are recovers opening why),
     )))
-runs_nothing (Damaged file offset) status seen seen' image image' files left0 left1 sink0 sink1 stamp m0 m1 past since are recovers reads opening input sink why = record {
+runs_nothing (Damaged file offset) status seen seen' image image' files left0 left1 sink0 sink1 journal0 journal1 stamp m0 m1 past since are recovers reads opening input sink why fails = record {
   line = told_map sink0 sink1 sink (λ x y same'. (
     [],
     same' ∙ sym (append-nil x),
@@ -232,30 +246,53 @@ runs_nothing (Damaged file offset) status seen seen' image image' files left0 le
   reads = damaged_reads seen seen' files file offset are recovers reads;
   crash = weakened opening (damaged_left seen image stamp files file offset are recovers);
   how = inr (inr why);
-  disk_fault = λ e. sink;
+  write_fault = λ e. absurd (elim why [ inl f ↦ omega arith | inr f ↦ omega arith ]);
+  disk_fault = λ e. (sink, fails e file offset recovers);
 }
 
--- the disk failed while the store was opened, or memory ran out
-pub runs_unopened : (status : ℕ) (seen seen' : ℕ → Option (List ℕ)) (image image' : ℕ → List ℕ → Type 0)
-    (left0 left1 sink0 sink1 : Option (List ℕ)) (stamp m0 m1 : ℕ) (past since : ℕ → Files → ℕ → Type 0)
+-- a store that wasn't opened
+runs_unopened : (status : ℕ) (seen seen' : ℕ → Option (List ℕ)) (image image' : ℕ → List ℕ → Type 0)
+    (left0 left1 sink0 sink1 : Option (List ℕ)) (journal0 journal1 : Option (List Call)) (stamp m0 m1 : ℕ) (past since : ℕ → Files → ℕ → Type 0)
     → ReadsAsBefore seen seen' → LeavesOnly m0 m1 past since (Opening seen image stamp) → Kept left0 left1 → Kept sink0 sink1 → (status ≡ 5) ⊎ (status ≡ 6)
+    → FilesTold seen seen' (λ files. status ≡ 5 → FailsOver journal0 journal1 files)
     → FilesTold seen seen' (λ files. (found : Recovery) → Recovers files found
-    → Runs found status (record { stamp = stamp; from = m0; to = m1; past = past; since = since }) image image' seen seen' left0 left1 sink0 sink1)
-runs_unopened status seen seen' image image' left0 left1 sink0 sink1 stamp m0 m1 past since reads opening input sink why = record {
+    → Runs found status files (record { stamp = stamp; from = m0; to = m1; past = past; since = since }) image image' seen seen' left0 left1 sink0 sink1 journal0 journal1)
+runs_unopened status seen seen' image image' left0 left1 sink0 sink1 journal0 journal1 stamp m0 m1 past since reads opening input sink why fails = record {
   told = λ tells.
-      let files = files_there seen (reads_tell seen seen' reads tells) in
-      (files.0, files.1, λ found recovers. runs_nothing found status seen seen' image image' files.0 left0 left1 sink0 sink1 stamp m0 m1 past since files.1 recovers reads opening input sink why);
+      let files = fails.told tells in
+      (files.0, files.1, λ found recovers. runs_nothing found status seen seen' image image' files.0 left0 left1 sink0 sink1 journal0 journal1 stamp m0 m1 past since files.1 recovers reads opening input sink why files.2);
 }
+
+-- the disk failed while the store was opened
+pub runs_faulted : (seen seen' : ℕ → Option (List ℕ)) (image image' : ℕ → List ℕ → Type 0)
+    (left0 left1 sink0 sink1 : Option (List ℕ)) (journal0 journal1 : Option (List Call)) (stamp m0 m1 : ℕ) (past since : ℕ → Files → ℕ → Type 0)
+    → ReadsAsBefore seen seen' → LeavesOnly m0 m1 past since (Opening seen image stamp) → Kept left0 left1 → Kept sink0 sink1
+    → FilesTold seen seen' (FailsOver journal0 journal1)
+    → FilesTold seen seen' (λ files. (found : Recovery) → Recovers files found
+    → Runs found 5 files (record { stamp = stamp; from = m0; to = m1; past = past; since = since }) image image' seen seen' left0 left1 sink0 sink1 journal0 journal1)
+runs_faulted seen seen' image image' left0 left1 sink0 sink1 journal0 journal1 stamp m0 m1 past since reads opening input sink fails =
+    runs_unopened 5 seen seen' image image' left0 left1 sink0 sink1 journal0 journal1 stamp m0 m1 past since reads opening input sink (inl refl)
+    (record { told = λ tells. let files = fails.told tells in (files.0, files.1, λ e. files.2) })
+
+-- or memory ran out
+pub runs_out : (seen seen' : ℕ → Option (List ℕ)) (image image' : ℕ → List ℕ → Type 0)
+    (left0 left1 sink0 sink1 : Option (List ℕ)) (journal0 journal1 : Option (List Call)) (stamp m0 m1 : ℕ) (past since : ℕ → Files → ℕ → Type 0)
+    → ReadsAsBefore seen seen' → LeavesOnly m0 m1 past since (Opening seen image stamp) → Kept left0 left1 → Kept sink0 sink1
+    → FilesTold seen seen' (λ files. (found : Recovery) → Recovers files found
+    → Runs found 6 files (record { stamp = stamp; from = m0; to = m1; past = past; since = since }) image image' seen seen' left0 left1 sink0 sink1 journal0 journal1)
+runs_out seen seen' image image' left0 left1 sink0 sink1 journal0 journal1 stamp m0 m1 past since reads opening input sink =
+    runs_unopened 6 seen seen' image image' left0 left1 sink0 sink1 journal0 journal1 stamp m0 m1 past since reads opening input sink (inr refl)
+    (record { told = λ tells. let files = files_there seen (reads_tell seen seen' reads tells) in (files.0, files.1, λ e. absurd (omega (arith, e))) })
 
 reads_same : (seen : ℕ → Option (List ℕ)) → ReadsAsBefore seen seen
 reads_same seen file lt = told_same _ (seen file) (λ bytes. inl refl)
 
 -- memory ran out before anything was done
-pub runs_untouched : (seen : ℕ → Option (List ℕ)) (image : ℕ → List ℕ → Type 0) (left sink : Option (List ℕ)) (stamp moment : ℕ) (since : ℕ → Files → ℕ → Type 0)
+pub runs_untouched : (seen : ℕ → Option (List ℕ)) (image : ℕ → List ℕ → Type 0) (left sink : Option (List ℕ)) (journal : Option (List Call)) (stamp moment : ℕ) (since : ℕ → Files → ℕ → Type 0)
     → ((files : Files) (s : ℕ) → since moment files s → AreImages image files × (s ≡ stamp))
     → FilesTold seen seen (λ files. (found : Recovery) → Recovers files found
-    → Runs found 6 (record { stamp = stamp; from = moment; to = moment; past = since; since = since }) image image seen seen left left sink sink)
-runs_untouched seen image left sink stamp moment since now =
-    runs_unopened 6 seen seen image image left left sink sink stamp moment moment since since (reads_same seen)
+    → Runs found 6 files (record { stamp = stamp; from = moment; to = moment; past = since; since = since }) image image seen seen left left sink sink journal journal)
+runs_untouched seen image left sink journal stamp moment since now =
+    runs_out seen seen image image left left sink sink journal journal stamp moment moment since since (reads_same seen)
     (started moment since (λ files s there. let is = now files s there in record { stamp = is.1; log = inl (is.0 1 (omega arith)); others = λ file lt other. is.0 file lt }))
-    (told_same _ left (λ bytes. refl)) (told_same _ sink (λ bytes. refl)) (inr refl)
+    (told_same _ left (λ bytes. refl)) (told_same _ sink (λ bytes. refl))

@@ -1,6 +1,9 @@
 pub mod TakeBack
 pub mod Room
 pub mod Puts
+pub mod Calls
+pub mod Meeting
+pub mod Opened
 pub mod Deciding
 pub mod Recovery
 pub mod Replaying

@@ -107,7 +107,7 @@ files_there seen tells =
     each files a b c d (suc (suc (suc zero))) lt = d
     each files a b c d (suc (suc (suc (suc file)))) lt = absurd (omega (arith, lt))
 
-of_told : (Q : List ℕ → Type 0) (a b : Option (List ℕ)) (bytes : List ℕ) → a ≡ Some bytes → IsSome b → Told a b (λ was _. Q was) → Q bytes
+pub of_told : (Q : List ℕ → Type 0) (a b : Option (List ℕ)) (bytes : List ℕ) → a ≡ Some bytes → IsSome b → Told a b (λ was _. Q was) → Q bytes
 of_told Q (Some x) (Some y) bytes same some told = let is : x ≡ bytes = cc in subst Q is told
 of_told Q (Some x) None bytes same some told = absurd (false≢true some)
 of_told Q None b bytes same some told = absurd cc

@@ -1,22 +1,31 @@
 -- The replay of the records of a log.
 use Rattle.std.proofs.Common.{◌≡◌, ◌≤◌, ◌+◌, ℕ, ℤ, false, nat_le, IsTrue, List, ◌∷◌, length, take, drop, Option, Some, None, refl, ap, sym, subst, ◌∙◌, arith}
-use Rattle.std.specs.Prelude.{slice_get, IfSome}
+use Rattle.std.specs.Prelude.{slice_get, IfSome, All}
 use Rattle.std.proofs.lemmas.Bool.{and_parts, leb-true}
 use Rattle.std.proofs.lemmas.List.{drop_more, drop_all, take_all}
+use Rattle.std.proofs.lemmas.List.Elements.{All-nil, All-append}
 use Rattle.std.proofs.lemmas.Option.{slice_get_within, get_or_from_slice_get}
 use Rattle.kh_term.specs.declared.name.Name.{Name}
 use Rattle.kh_read.specs.declared.form.Form.TheVariants as form
-use Rattle.kh_io.specs.Told.{Told, Kept}
-use Rattle.kh_io.proofs.Telling.{told_both}
+use Rattle.kh_io.specs.Told.{Told, Kept, Extends}
+use Rattle.kh_io.specs.Call.{Call}
+use Rattle.kh_io.proofs.Telling.{told_map, told_both, extends_both}
+use Rattle.kh_log.specs.declared.error.LogError.{LogError}
+use Rattle.kh_log.specs.declared.error.LogError.TheVariants as log_error
+use Rattle.khepri.specs.declared.store.OpenError.TheVariants as open_error
 use Rattle.kh_log.specs.Records.{records_of, span as records_span}
 use Rattle.kh_log.specs.Log.{Place, Holds}
+use Rattle.kh_log.specs.Calls.{Reads, EndInFault, IsBefore}
+use Rattle.kh_log.proofs.Calling.{all_reads_map, fault_behind, no_calls}
 use Rattle.khepri.specs.Tree.{Node}
 use Rattle.khepri.specs.Machine.{is_logged, after}
 use Rattle.khepri.specs.Command.{put_bytes, IsPut}
 use Rattle.khepri.specs.State.{State, empty, log_limit}
 use Rattle.khepri.specs.Recovery.{Recovery, Recovered, Damaged, IsNoRecord, Replays, ends, applies, refuses}
-use Rattle.khepri.specs.Opening.{IsRecord}
+use Rattle.khepri.specs.Opening.{IsRecord, opening_error}
 use Rattle.khepri.proofs.Puts.{put_is_one}
+use Rattle.khepri.proofs.Recovery.{replays_one, replays_some}
+use Rattle.khepri.proofs.Meeting.{damage_behind}
 
 -- a put that the tree has no room for is no record
 pub unlogged : (bytes : List ℕ) (path : List Name) (number : ℤ) (nodes : List Node) (span : ℕ) → IsPut bytes path number
@@ -74,7 +83,7 @@ record_within bytes old new is =
     omega (arith, room, ap length is.put.packed)
 
 -- two facts of one call
-told_also : (P Q : List ℕ → List ℕ → Type 0) (a b : Option (List ℕ)) → Told a b P → Told a b Q → Told a b (λ x y. P x y × Q x y)
+pub told_also : (P Q : List ℕ → List ℕ → Type 0) (a b : Option (List ℕ)) → Told a b P → Told a b Q → Told a b (λ x y. P x y × Q x y)
 told_also P Q (Some x) (Some y) p q = (p, q)
 told_also P Q None (Some y) p q = absurd p
 told_also P Q (Some x) None p q = tt
@@ -126,3 +135,52 @@ pub next_more : (a b : Option (List ℕ)) (span more next after : ℕ) → Kept 
 next_more (Some x) (Some y) span more next after kept at is = omega (arith, at, is)
 next_more None (Some y) span more next after kept at is = absurd kept
 next_more a None span more next after kept at is = tt
+
+-- ---- the calls
+
+-- whatever they read
+abbrev pub ReadsLog : List Call → Type 0
+ReadsLog = All (Reads 1 (λ at asked bytes. Unit {0}))
+
+pub reads_log : (P : ℕ → ℕ → List ℕ → Type 0) (a b : Option (List Call)) → Extends a b (All (Reads 1 P)) → Extends a b ReadsLog
+reads_log P a b calls = told_map a b calls (λ x y p. (p.0, p.1, all_reads_map 1 p.0 (λ at asked bytes is. tt) p.2))
+
+before_later : (place after at asked : ℕ) (bytes : List ℕ) → place ≤ after → IsBefore place at asked bytes → IsBefore after at asked bytes
+before_later place after at asked bytes le is = record { begins = omega (arith, is.begins, le); ends = omega (arith, is.ends, le) }
+
+-- none goes past the gate behind the last record that was read
+pub reads_none : (journal : Option (List Call)) (next : ℕ) → Extends journal journal (All (Reads 1 (IsBefore (next + 1))))
+reads_none journal next = no_calls (All (Reads 1 (IsBefore (next + 1)))) journal (All-nil (Reads 1 (IsBefore (next + 1))))
+
+pub reads_more : (a b c : Option (List Call)) (file next after : ℕ) → file ≡ 1 → next ≤ after → Extends a b (All (Reads 1 (IsBefore (next + 1)))) → Extends b c (All (Reads file (IsBefore (after + 1))))
+    → Extends a c (All (Reads 1 (IsBefore (after + 1))))
+reads_more a b c file next after one le first later =
+    let all = All (Reads 1 (IsBefore (after + 1))) in
+    extends_both (All (Reads 1 (IsBefore (next + 1)))) all all a b c first (subst (λ f. Extends b c (All (Reads f (IsBefore (after + 1))))) one later) (λ calls more p q.
+    All-append (Reads 1 (IsBefore (after + 1))) calls more (all_reads_map 1 calls (λ at asked bytes is. before_later (next + 1) (after + 1) at asked bytes (omega (arith, le)) is) p) q)
+
+-- the records that are left lead to what all lead to
+left_replays : (s : State) (count : ℕ) (bytes : List ℕ) (end : Recovery) → Replayed s count bytes → Replays empty (records_of bytes) end → Replays s (drop count (records_of bytes)) end
+left_replays s count bytes end replayed all =
+    let some = replays_some s (drop count (records_of bytes)) in
+    subst (λ (e : Recovery). Replays s (drop count (records_of bytes)) e) (replays_one empty (records_of bytes) some.0 end (replayed.from some.0 some.1) all) some.1
+
+-- a read failed before the bytes of the next record, which stand before those of a record that is damage
+pub read_fails : (a b c : Option (List ℕ)) (j0 j1 j2 : Option (List Call)) (s : State) (count file next : ℕ) → ToldReplayed a b s count → Kept b c → IfSome b (λ _. s.span ≡ next) → file ≡ 1
+    → Extends j0 j1 (All (Reads 1 (IsBefore (next + 1)))) → Extends j1 j2 (λ calls. EndInFault calls × All (Reads file (IsBefore (next + 5))) calls)
+    → Told a c (λ was _. (f offset : ℕ) → Replays empty (records_of was) (Damaged f offset) → Extends j0 j2 (λ calls. EndInFault calls × All (Reads 1 (IsBefore (offset + 4))) calls))
+read_fails a b c j0 j1 j2 s count file next first kept at one calls fault =
+    told_both a b c first (told_holds b c (λ _. s.span ≡ next) kept at) (λ x y z p same f offset replays.
+    let far = damage_behind s (drop count (records_of x)) f offset (left_replays s count x (Damaged f offset) p.1 replays) in
+    let before = Reads 1 (IsBefore (offset + 4)) in
+    extends_both (All (Reads 1 (IsBefore (next + 1)))) (λ l. EndInFault l × All (Reads 1 (IsBefore (next + 5))) l) (λ l. EndInFault l × All before l) j0 j1 j2 calls
+    (subst (λ g. Extends j1 j2 (λ l. EndInFault l × All (Reads g (IsBefore (next + 5))) l)) one fault) (λ done more q r. (
+      fault_behind done more r.0,
+      All-append before done more (all_reads_map 1 done (λ from asked bytes is. before_later (next + 1) (offset + 4) from asked bytes (omega (arith, far, same)) is) q)
+          (all_reads_map 1 more (λ from asked bytes is. before_later (next + 5) (offset + 4) from asked bytes (omega (arith, far, same)) is) r.1),
+    )))
+
+pub fault_opening : (e : LogError) → opening_error e ≡ open_error.DiskFault → e ≡ log_error.DiskFault
+fault_opening log_error.DiskFault is = refl
+fault_opening (log_error.NotALog o) is = absurd cc
+fault_opening log_error.NoMemory is = absurd cc

@@ -1,5 +1,7 @@
 -- What a status tells.
 use Rattle.std.proofs.Common.{◌≡◌, ℕ, List, Option, Result, Err, refl, ap, ◌∙◌, ◌⊎◌, inl, inr, arith}
+use Rattle.kh_io.specs.declared.files.Files.{Files}
+use Rattle.kh_io.specs.Call.{Call}
 use Rattle.kh_io.specs.Told.{Rose}
 use Rattle.kh_io.proofs.Telling.{told_map}
 use Rattle.khepri.specs.declared.session.Stop.{Stop}
@@ -26,17 +28,17 @@ by_how : (status n : ℕ) → NoCallFailed status → (status ≡ n) ⊎ IsCutOf
 by_how status n none (inl e) = inr e
 by_how status n none (inr cut) = inl (cut_is_six status none cut)
 
-pub tells_ending : (found : Recovery) (status : ℕ) (span : Span) (image image' : ℕ → List ℕ → Type 0) (seen seen' : ℕ → Option (List ℕ))
-    (left left_after sink sink_after : Option (List ℕ)) → NoCallFailed status
-    → Runs found status span image image' seen seen' left left_after sink sink_after → TellsEnding status found left left_after sink sink_after
-tells_ending (Recovered first) status span image image' seen seen' left left_after sink sink_after none ran =
+pub tells_ending : (found : Recovery) (status : ℕ) (files : Files) (span : Span) (image image' : ℕ → List ℕ → Type 0) (seen seen' : ℕ → Option (List ℕ))
+    (left left_after sink sink_after : Option (List ℕ)) (journal journal_after : Option (List Call)) → NoCallFailed status
+    → Runs found status files span image image' seen seen' left left_after sink sink_after journal journal_after → TellsEnding status found left left_after sink sink_after
+tells_ending (Recovered first) status files span image image' seen seen' left left_after sink sink_after journal journal_after none ran =
     told_map left left_after ran (λ input rest given. told_map sink sink_after given (λ a b q forms ending script.
     let own = by_how status (ending_status q.2.ending) none q.2.how in
     elim own [
       | inl e ↦ inl e
       | inr e ↦ inr (e ∙ ap ending_status (script_unique _ _ q.2.forms forms q.2.ending ending q.2.script script).1)
     ]))
-tells_ending (Damaged file offset) status span image image' seen seen' left left_after sink sink_after none ran =
+tells_ending (Damaged file offset) status files span image image' seen seen' left left_after sink sink_after journal journal_after none ran =
     by_how status 1 none (elim ran.how [ inl e ↦ inl e | inr unreported ↦ inr (inr unreported) ])
 
 no_rise : (before later : ℕ) → Stood before later → Rose before later → ⊥
@@ -85,15 +87,16 @@ none_failed s reads reads' writes writes' disk disk' read_stood write_stood disk
 
 -- what a run does tells how it ends
 pub tells : (status : ℕ) (span : Span) (image image' : ℕ → List ℕ → Type 0) (seen seen' : ℕ → Option (List ℕ)) (left left_after sink sink_after : Option (List ℕ))
+    (journal journal_after : Option (List Call))
     → NoCallFailed status
-    → FilesTold seen seen' (λ files. (found : Recovery) → Recovers files found → Runs found status span image image' seen seen' left left_after sink sink_after)
+    → FilesTold seen seen' (λ files. (found : Recovery) → Recovers files found → Runs found status files span image image' seen seen' left left_after sink sink_after journal journal_after)
     → FilesTold seen seen' (λ files. (found : Recovery) → Recovers files found → TellsEnding status found left left_after sink sink_after)
-tells status span image image' seen seen' left left_after sink sink_after none ran = record {
+tells status span image image' seen seen' left left_after sink sink_after journal journal_after none ran = record {
   told = λ told.
       let at_entry = ran.told told in (
         at_entry.0,
         at_entry.1,
-        λ found recovers. tells_ending found status span image image' seen seen' left left_after sink sink_after none (at_entry.2 found recovers),
+        λ found recovers. tells_ending found status at_entry.0 span image image' seen seen' left left_after sink sink_after journal journal_after none (at_entry.2 found recovers),
       );
 }
 

@@ -3,6 +3,7 @@ pub mod Machine
 pub mod Command
 pub mod State
 pub mod Recovery
+pub mod Damage
 pub mod Store
 pub mod Opening
 pub mod Output

@@ -1,7 +1,10 @@
 -- How a store is opened: its log is begun where there is none, and the records are applied.
-use Rattle.std.specs.Prelude.{◌≡◌, ◌⊎◌, ℕ, List, Option, Some, None, IsSome, ℤ, IsTrue}
+use Rattle.std.specs.Prelude.{◌≡◌, ◌⊎◌, ℕ, List, [], ◌∷◌, ◌++◌, length, All, true, if◌then◌else◌, nat_lt, Option, Some, None, IsSome, ℤ, IsTrue}
 use Rattle.kh_term.specs.declared.name.Name.{Name}
 use Rattle.kh_io.specs.declared.files.Files.{Files}
+use Rattle.kh_io.specs.Told.{IsFrontOf}
+use Rattle.kh_io.specs.Call.{Call, Take, Give, Len, ReadAt, WriteAt, Cut, Sync}
+use Rattle.kh_log.specs.Calls.{Reads}
 use Rattle.kh_read.specs.declared.form.Form.TheVariants as form
 use Rattle.kh_log.specs.declared.error.LogError.{LogError}
 use Rattle.kh_log.specs.declared.error.LogError.TheVariants as log_error
@@ -44,3 +47,35 @@ abbrev pub opening_error : LogError → OpenError
 opening_error log_error.DiskFault = open_error.DiskFault
 opening_error (log_error.NotALog offset) = open_error.Damaged 1 offset
 opening_error log_error.NoMemory = open_error.NoMemory
+
+-- a call of the disk that reads no bytes
+abbrev pub ReadsNothing : Call → Type 0
+ReadsNothing (Len file len) = Unit {0}
+ReadsNothing (WriteAt file at bytes done) = Unit {0}
+ReadsNothing (Cut file len done) = Unit {0}
+ReadsNothing (Sync file done) = Unit {0}
+ReadsNothing (ReadAt file at asked bytes) = ⊥
+ReadsNothing (Take asked bytes) = ⊥
+ReadsNothing (Give piece taken) = ⊥
+
+-- all files are synced
+abbrev pub all_synced : List Call
+all_synced = Sync 0 true ∷ Sync 1 true ∷ Sync 2 true ∷ Sync 3 true ∷ []
+
+-- file 1 is cut to nothing, and an empty log is written and synced
+abbrev pub empty_written : List Call
+empty_written = Cut 1 0 true ∷ WriteAt 1 0 (0 ∷ []) true ∷ Sync 1 true ∷ []
+
+-- a log is begun in a file 1 of these bytes where that holds none
+abbrev pub begun_in : List ℕ → List Call
+begun_in was = Len 1 (Some (length was)) ∷ (if nat_lt (length was) 2 then empty_written else [])
+
+-- The calls of an opening over a file 1 of these bytes: all files are synced, a log is begun, and it is read.
+pub record OpenedBy (was : List ℕ) (calls : List Call) : Type 0 where
+  pub reads : List Call
+  pub are : calls ≡ all_synced ++ (begun_in was ++ reads)
+  pub log : All (Reads 1 (λ at asked bytes. Unit {0})) reads
+
+-- the calls begin with those that sync all files and begin a log in a file 1 of these bytes
+abbrev pub BeginByOpening : List ℕ → List Call → Type 0
+BeginByOpening was calls = IsFrontOf (all_synced ++ begun_in was) calls

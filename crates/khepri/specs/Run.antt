@@ -3,6 +3,7 @@ use Rattle.std.specs.Prelude.{◌≡◌, ℕ, ◌-◌, ◌<◌, ◌^◌, ◌⊎�
 use Rattle.kh_term.specs.declared.tree.TermTree.{TermTree}
 use Rattle.kh_term.specs.declared.tree.TermTree.TheVariants as tree
 use Rattle.kh_io.specs.declared.files.Files.{Files}
+use Rattle.kh_io.specs.Call.{Call}
 use Rattle.kh_io.specs.Told.{Told, Kept, Extends, IsFrontOf}
 use Rattle.kh_io.specs.Disk.{AreImages, LeavesOnly}
 use Rattle.kh_text_defs.specs.Shown.{shown_line}
@@ -12,6 +13,7 @@ use Rattle.khepri.specs.declared.session.Stop.TheVariants as stop
 use Rattle.khepri.specs.Machine.{word}
 use Rattle.khepri.specs.State.{State, store_logs, state_after, text_of}
 use Rattle.khepri.specs.Recovery.{Recovery, Recovered, Damaged, Recovers}
+use Rattle.khepri.specs.Damage.{FailBefore, FailInside}
 use Rattle.khepri.specs.Script.{Ending, AtEnd, AtFault, Unfinished, WholeScript, FrontScript}
 use Rattle.khepri.specs.Session.{KeepsAnswered}
 use Rattle.khepri.specs.Serving.{Span}
@@ -100,22 +102,25 @@ abbrev pub damage_line : ℕ → ℕ → List ℕ
 damage_line file offset = shown_line (damage_tree file offset)
 
 -- A run over damaged files takes no input and gives the line that says where they are damaged, or a front of it. A read of the files
--- gives what it gave, and a crash leaves what it might have left at entry.
-pub record Reports (file offset status : ℕ) (span : Span) (image : ℕ → List ℕ → Type 0) (seen seen' : ℕ → Option (List ℕ)) (left left_after sink sink_after : Option (List ℕ)) : Type 0 where
+-- gives what it gave, and a crash leaves what it might have left at entry. The status is 1 unless a call fails before the damage is met
+-- or while the line is given, or memory runs out.
+pub record Reports (file offset status : ℕ) (files : Files) (span : Span) (image : ℕ → List ℕ → Type 0) (seen seen' : ℕ → Option (List ℕ)) (left left_after sink sink_after : Option (List ℕ)) (journal journal_after : Option (List Call)) : Type 0 where
   pub line : Extends sink sink_after (λ given. IsFrontOf given (damage_line file offset) × (status ≡ 1 → given ≡ damage_line file offset))
   pub input : Kept left left_after
   pub reads : (this : ℕ) → this < 4 → Kept (seen this) (seen' this)
   pub crash : LeavesOnly span.from span.to span.past span.since (λ files s. AreImages image files)
   pub how : (status ≡ 1) ⊎ IsUnreported status
-  -- 5: the disk failed before the damage was met
-  pub disk_fault : status ≡ 5 → Kept sink sink_after
+  -- 4: a give failed while some of the line was left
+  pub write_fault : status ≡ 4 → Extends journal journal_after (FailInside (damage_line file offset))
+  -- 5: the disk failed before the damage was met, and nothing was given
+  pub disk_fault : status ≡ 5 → Kept sink sink_after × Extends journal journal_after (FailBefore files.l0 offset)
 
 -- what a run does by what the files at entry recover to
-abbrev pub Runs : Recovery → ℕ → Span → (image image' : ℕ → List ℕ → Type 0) → (seen seen' : ℕ → Option (List ℕ)) → (left left_after sink sink_after : Option (List ℕ)) → Type 0
-Runs (Recovered first) status span image image' seen seen' left left_after sink sink_after =
+abbrev pub Runs : Recovery → ℕ → Files → Span → (image image' : ℕ → List ℕ → Type 0) → (seen seen' : ℕ → Option (List ℕ)) → (left left_after sink sink_after : Option (List ℕ)) → (journal journal_after : Option (List Call)) → Type 0
+Runs (Recovered first) status files span image image' seen seen' left left_after sink sink_after journal journal_after =
     Ends first status (AtEntry image span.stamp) span image' left left_after sink sink_after
-Runs (Damaged file offset) status span image image' seen seen' left left_after sink sink_after =
-    Reports file offset status span image seen seen' left left_after sink sink_after
+Runs (Damaged file offset) status files span image image' seen seen' left left_after sink sink_after journal journal_after =
+    Reports file offset status files span image seen seen' left left_after sink sink_after journal journal_after
 
 -- these files are damaged
 abbrev pub FindsDamage : Files → Type 0

@@ -3,9 +3,11 @@ ghost use Rattle.std.specs.Prelude.{◌≡◌, ◌≤◌, ◌⊎◌, ℤ, pos, c
 ghost use Rattle.kh_term.specs.declared.tree.TermTree.TheVariants as tree;
 ghost use Rattle.kh_io.specs.Told.{Kept, Extends, IsFrontOf, Rose};
 ghost use Rattle.kh_io.specs.Disk.{FilesStay, LeavesOnly};
+ghost use Rattle.kh_log.specs.Calls.{Grows};
 ghost use Rattle.khepri.specs.Machine.{word};
 ghost use Rattle.khepri.specs.Run.{damage_tree, damage_line};
 ghost use Rattle.khepri.specs.Session.{Untouched};
+ghost use Rattle.khepri.specs.Damage.{FailInside};
 
 use crate::machine::{triple, word};
 use crate::output::give_all;
@@ -27,6 +29,9 @@ pub fn report<H: Host>(alloc: Global, host: &mut H, file: u8, offset: u64) -> St
     ensures input { Kept (H.left host.old) (H.left host.new) }
     ensures read_faults { H.read_faults host.new ≡ H.read_faults host.old }
     ensures disk_faults { H.disk_faults host.new ≡ H.disk_faults host.old }
+    // It fails while some of the line is left.
+    ensures calls_at_fault { result ≡ Stop.WriteFault → Extends (H.journal host.old) (H.journal host.new) (FailInside (damage_line file offset)) }
+    ensures grows { Grows (H.journal host.old) (H.journal host.new) }
 {
     let Ok(damage) = damage_term(alloc, file, offset) else {
         return Stop::NoMemory;

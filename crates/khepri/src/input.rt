@@ -2,6 +2,7 @@
 ghost use Rattle.std.specs.Prelude.{◌≡◌, ◌<◌, ◌≤◌, length, IfOk, IfErr, OnErr, OnOk};
 ghost use Rattle.kh_io.specs.Told.{Kept, Rose};
 ghost use Rattle.kh_io.specs.Disk.{FilesStay, LeavesOnly};
+ghost use Rattle.kh_log.specs.Calls.{Grows};
 ghost use Rattle.khepri.specs.Input.{TakesMore, TakeStops};
 ghost use Rattle.khepri.specs.Session.{Untouched};
 
@@ -39,6 +40,7 @@ pub fn take_more<H: Host>(
     ensures stamp { H.stamp host.new ≡ H.stamp host.old }
     ensures write_faults { H.write_faults host.new ≡ H.write_faults host.old }
     ensures disk_faults { H.disk_faults host.new ≡ H.disk_faults host.old }
+    ensures grows { Grows (H.journal host.old) (H.journal host.new) }
 {
     let room = SCRIPT_LIMIT - input.len();
     let want = room.min(buffer.len()).max(1);

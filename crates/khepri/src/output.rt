@@ -2,7 +2,9 @@
 ghost use Rattle.std.specs.Prelude.{◌≡◌, ◌≤◌, List, length, take, OnOk, OnErr};
 ghost use Rattle.kh_io.specs.Told.{Kept, Told, Extends, IsFrontOf, Rose};
 ghost use Rattle.kh_io.specs.Disk.{FilesStay, LeavesOnly};
+ghost use Rattle.kh_log.specs.Calls.{Grows};
 ghost use Rattle.khepri.specs.Output.{GivesAll};
+ghost use Rattle.khepri.specs.Damage.{FailInside};
 ghost use Rattle.khepri.specs.Session.{Untouched};
 
 use kh_io::{Failed, Host};
@@ -21,6 +23,8 @@ pub fn give_all<H: Host>(host: &mut H, piece: &[u8]) -> Result<(), Failed>
     ensures input { Kept (H.left host.old) (H.left host.new) }
     ensures read_faults { H.read_faults host.new ≡ H.read_faults host.old }
     ensures disk_faults { H.disk_faults host.new ≡ H.disk_faults host.old }
+    ensures calls_at_fault { OnErr result (Extends (H.journal host.old) (H.journal host.new) (FailInside piece.now)) }
+    ensures grows { Grows (H.journal host.old) (H.journal host.new) }
 {
     let mut rest = piece;
     while !rest.is_empty() {

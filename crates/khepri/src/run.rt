@@ -1,8 +1,10 @@
 //! A whole run: the store is opened, pieces of the input come, and their lines are answered.
 ghost use Rattle.std.specs.Prelude.{◌≡◌, ◌≢◌, ◌<◌, ◌⊎◌, Err, length, OnOk};
-ghost use Rattle.kh_io.specs.Told.{Told, Rose};
+ghost use Rattle.kh_io.specs.Told.{Told, Extends, Rose};
+ghost use Rattle.kh_log.specs.Calls.{Grows};
 ghost use Rattle.khepri.specs.Recovery.{Recovery, Recovers};
 ghost use Rattle.khepri.specs.Store.{FilesTold, state_of, Stands, AreSafe, GainsRecords, KeepsRecords, WritesLogAlone};
+ghost use Rattle.khepri.specs.Opening.{BeginByOpening};
 ghost use Rattle.khepri.specs.Run.{stop_status, run_status, Ends, Runs, FindsDamage, Never};
 
 use crate::damage::report;
@@ -34,11 +36,14 @@ impl Stop {
 
 /// Opens the store in the files of the host, and answers the script that it gives.
 pub fn run<H: Host>(alloc: Global, host: &mut H) -> Result<(), Stop>
-    ensures ran { FilesTold (H.seen host.old) (H.seen host.new) (λ files. (found : Recovery) → Recovers files found → Runs found (run_status result)
+    ensures ran { FilesTold (H.seen host.old) (H.seen host.new) (λ files. (found : Recovery) → Recovers files found → Runs found (run_status result) files
         (record { stamp = H.stamp host.old; from = H.moment host.old; to = H.moment host.new; past = H.left_since host.old; since = H.left_since host.new })
-        (H.image host.old) (H.image host.new) (H.seen host.old) (H.seen host.new) (H.left host.old) (H.left host.new) (H.given host.old) (H.given host.new)) }
+        (H.image host.old) (H.image host.new) (H.seen host.old) (H.seen host.new) (H.left host.old) (H.left host.new) (H.given host.old) (H.given host.new)
+        (H.journal host.old) (H.journal host.new)) }
     ensures files { WritesLogAlone (H.seen host.old) (H.seen host.new) (H.image host.old) (H.image host.new) (H.moment host.old) (H.moment host.new) (H.left_since host.old) (H.left_since host.new) }
     ensures log { result ≢ Err Stop.DiskFault → result ≢ Err Stop.NoMemory → Told (H.seen host.old 1) (H.seen host.new 1) KeepsRecords }
+    ensures opening { result ≢ Err Stop.DiskFault → result ≢ Err Stop.NoMemory → Told (H.seen host.old 1) (H.seen host.new 1)
+        (λ was _. Extends (H.journal host.old) (H.journal host.new) (BeginByOpening was)) }
     ensures safe { (run_status result ≡ 0) ⊎ (run_status result ≡ 1) → AreSafe (H.seen host.new) (H.image host.new) }
     ensures damage { result ≡ Err Stop.Damaged → FilesTold (H.seen host.old) (H.seen host.new) FindsDamage }
     ensures reads { result ≡ Err Stop.ReadFault → Rose (H.read_faults host.old) (H.read_faults host.new) }
@@ -79,6 +84,7 @@ fn answer_script<H: Host>(
     ensures reads { result ≡ Err Stop.ReadFault → Rose (H.read_faults host.old) (H.read_faults host.new) }
     ensures writes { result ≡ Err Stop.WriteFault → Rose (H.write_faults host.old) (H.write_faults host.new) }
     ensures disk { result ≡ Err Stop.DiskFault → Rose (H.disk_faults host.old) (H.disk_faults host.new) }
+    ensures grows { Grows (H.journal host.old) (H.journal host.new) }
 {
     let mut input = Vec::new(alloc);
     let mut at = 0;

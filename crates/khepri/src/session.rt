@@ -3,6 +3,7 @@ ghost use Rattle.std.specs.Prelude.{◌≡◌, ◌≢◌, ◌≤◌, IsTrue, len
 ghost use Rattle.kh_io.specs.Told.{Told, Kept, Extends, IsFrontOf, Rose};
 ghost use Rattle.kh_io.specs.Disk.{LeavesOnly};
 ghost use Rattle.kh_text_defs.specs.Shown.{shown_line};
+ghost use Rattle.kh_log.specs.Calls.{Grows};
 ghost use Rattle.khepri.specs.Command.{is_command};
 ghost use Rattle.khepri.specs.Output.{GivesAll};
 ghost use Rattle.khepri.specs.State.{store_logs, store_reply, store_after};
@@ -56,6 +57,7 @@ pub fn answer<H: Host>(
     ensures no_disk_fault { OnOk result (H.disk_faults host.new ≡ H.disk_faults host.old) }
     ensures input { Kept (H.left host.old) (H.left host.new) }
     ensures read_faults { H.read_faults host.new ≡ H.read_faults host.old }
+    ensures grows { Grows (H.journal host.old) (H.journal host.new) }
 {
     let reply = match store.execute(host, form) {
         Ok(reply) => reply,
@@ -96,6 +98,7 @@ pub fn serve<H: Host>(
     ensures no_disk_fault { OnOk result (H.disk_faults host.new ≡ H.disk_faults host.old) }
     ensures input { Kept (H.left host.old) (H.left host.new) }
     ensures read_faults { H.read_faults host.new ≡ H.read_faults host.old }
+    ensures grows { Grows (H.journal host.old) (H.journal host.new) }
 {
     let mut place = at;
     'lines: loop {

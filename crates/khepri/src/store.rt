@@ -1,15 +1,17 @@
 //! The store: the tree, and the log that keeps it over a crash.
 ghost use Rattle.std.specs.Prelude.{◌≡◌, ◌≢◌, ◌≤◌, ℕ, IsTrue, IfOk, OnOk, Err};
-ghost use Rattle.kh_io.specs.Told.{Told, Kept, Rose};
+ghost use Rattle.kh_io.specs.Told.{Told, Kept, Extends, Rose};
 ghost use Rattle.kh_io.specs.Disk.{LeavesOnly};
+ghost use Rattle.kh_log.specs.Calls.{Grows};
 ghost use Rattle.kh_read.specs.declared.form.Form.{Form};
 ghost use Rattle.kh_read.specs.declared.form.Form.TheVariants as form;
 ghost use Rattle.khepri.specs.declared.store.OpenError.TheVariants as open_error;
 ghost use Rattle.khepri.specs.declared.store.StoreError.TheVariants as store_error;
-ghost use Rattle.khepri.specs.Opening.{opening_error};
+ghost use Rattle.khepri.specs.Opening.{opening_error, OpenedBy};
 ghost use Rattle.khepri.specs.Command.{is_command, is_atom_path};
 ghost use Rattle.khepri.specs.State.{store_logs, store_reply, store_after};
 ghost use Rattle.khepri.specs.Recovery.{Recovered, Damaged, Recovers};
+ghost use Rattle.khepri.specs.Damage.{FailBefore};
 ghost use Rattle.khepri.specs.Store.{FilesTold, state_of, Stands, AreSafe, Begun, GainsRecords, Opening, ReadsAsBefore, WritesLogAlone, Executing};
 
 use crate::command::pack_put;
@@ -130,6 +132,12 @@ impl Store {
         ensures sink { Kept (H.given host.old) (H.given host.new) }
         ensures read_faults { H.read_faults host.new ≡ H.read_faults host.old }
         ensures write_faults { H.write_faults host.new ≡ H.write_faults host.old }
+        // All files are synced, a log is begun, and then file 1 is read.
+        ensures calls { OnOk result (Told (H.seen host.old 1) (H.seen host.new 1) (λ was _. Extends (H.journal host.old) (H.journal host.new) (OpenedBy was))) }
+        ensures calls_damaged { (file offset : ℕ) → result ≡ Err (open_error.Damaged file offset) → Told (H.seen host.old 1) (H.seen host.new 1) (λ was _. Extends (H.journal host.old) (H.journal host.new) (OpenedBy was)) }
+        // Where the files are damaged, the disk fails before that is met.
+        ensures calls_at_fault { result ≡ Err open_error.DiskFault → FilesTold (H.seen host.old) (H.seen host.new)
+            (λ files. (file offset : ℕ) → Recovers files (Damaged file offset) → Extends (H.journal host.old) (H.journal host.new) (FailBefore files.l0 offset)) }
     {
         sync_all(host)?;
         begin_log(host)?;
@@ -158,6 +166,7 @@ impl Store {
         ensures sink { Kept (H.given host.old) (H.given host.new) }
         ensures read_faults { H.read_faults host.new ≡ H.read_faults host.old }
         ensures write_faults { H.write_faults host.new ≡ H.write_faults host.old }
+        ensures grows { Grows (H.journal host.old) (H.journal host.new) }
     {
         match form {
             Form::Get(path) => Ok(self.tree.apply(self.alloc, Form::Get(path))?.reply),
@@ -190,6 +199,7 @@ impl Store {
         ensures sink { Kept (H.given host.old) (H.given host.new) }
         ensures read_faults { H.read_faults host.new ≡ H.read_faults host.old }
         ensures write_faults { H.write_faults host.new ≡ H.write_faults host.old }
+        ensures grows { Grows (H.journal host.old) (H.journal host.new) }
     {
         let bytes = pack_put(self.alloc, &path, number)?;
         if !has_room(self.log.end(), bytes.len()) {

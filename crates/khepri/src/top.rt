@@ -1,9 +1,10 @@
 //! The top call.
 ghost use Rattle.std.specs.Prelude.{◌≡◌, ◌≢◌, ◌↔◌, ◌⊎◌, false, IsTrue};
-ghost use Rattle.kh_io.specs.Told.{Told, Rose};
+ghost use Rattle.kh_io.specs.Told.{Told, Extends, Rose};
 ghost use Rattle.khepri.specs.Words.{are_right};
 ghost use Rattle.khepri.specs.Recovery.{Recovery, Recovers};
 ghost use Rattle.khepri.specs.Store.{FilesTold, AreSafe, KeepsRecords, WritesLogAlone};
+ghost use Rattle.khepri.specs.Opening.{BeginByOpening};
 ghost use Rattle.khepri.specs.Run.{Runs, FindsDamage, Stood, OneScript, TellsEnding};
 
 use crate::run::run;
@@ -19,16 +20,22 @@ pub fn khepri<H: Host>(alloc: Global, words: &[String], host: &mut H) -> u8
     // on, at 0, 2 and 9 all of them; at 5 nothing was taken, or those before one logged command were answered; and a crash at any
     // moment since entry leaves what a crash at entry might have left, or the state after the first k commands, among which is each
     // whose reply has begun; after 0 it leaves the state after all.
-    // Where they are damaged: the line that says so is given, and reads and crashes give what they gave.
-    ensures session { IsTrue (are_right words.now) → FilesTold (H.seen host.old) (H.seen host.new) (λ files. (found : Recovery) → Recovers files found → Runs found result
+    // Where they are damaged: the line that says so is given, and reads and crashes give what they gave. The status is 1, unless a call
+    // of the disk fails before the damage is met (5) or one of the sink while some of the line is left (4), or memory runs out.
+    ensures session { IsTrue (are_right words.now) → FilesTold (H.seen host.old) (H.seen host.new) (λ files. (found : Recovery) → Recovers files found → Runs found result files
         (record { stamp = H.stamp host.old; from = H.moment host.old; to = H.moment host.new; past = H.left_since host.old; since = H.left_since host.new })
-        (H.image host.old) (H.image host.new) (H.seen host.old) (H.seen host.new) (H.left host.old) (H.left host.new) (H.given host.old) (H.given host.new)) }
+        (H.image host.old) (H.image host.new) (H.seen host.old) (H.seen host.new) (H.left host.old) (H.left host.new) (H.given host.old) (H.given host.new)
+        (H.journal host.old) (H.journal host.new)) }
 
     // Of each file but the log a read gives what it gave, and a crash at any moment leaves nothing that it couldn't have left at entry.
     ensures files { WritesLogAlone (H.seen host.old) (H.seen host.new) (H.image host.old) (H.image host.new) (H.moment host.old) (H.moment host.new) (H.left_since host.old) (H.left_since host.new) }
 
     // Unless the disk failed or memory ran out, a log was begun in file 1 where there was none, and it gained records or is as it was.
     ensures log { result ≢ 5 → result ≢ 6 → result ≢ 7 → Told (H.seen host.old 1) (H.seen host.new 1) KeepsRecords }
+
+    // Its first calls sync all files, and where file 1 is shorter than 2 bytes, cut it to nothing and write and sync an empty log.
+    ensures opening { result ≢ 5 → result ≢ 6 → result ≢ 7 → Told (H.seen host.old 1) (H.seen host.new 1)
+        (λ was _. Extends (H.journal host.old) (H.journal host.new) (BeginByOpening was)) }
 
     // After 0 and 1 a crash leaves of each file what a read gives.
     ensures safe { (result ≡ 0) ⊎ (result ≡ 1) → AreSafe (H.seen host.new) (H.image host.new) }

@@ -13,6 +13,10 @@ use std::test::Fail;
 const STOCK: &[u8] =
     b"\xa5\0\0\0\x20\x06\0\0\0\x04\x02\x03put\x05\0\0\0\x01\x02\x05stock\x04\x01\x02\0\x96\x07\0\0\0\0\0";
 
+// The same, and a record behind it that is no command.
+const PUT_AND_MORE: &[u8] =
+    b"\xa5\0\0\0\x20\x06\0\0\0\x04\x02\x03put\x05\0\0\0\x01\x02\x05stock\x04\x01\x02\0\x96\x07\0\0\0\0\xa5\0\0\0\x01\x04\0";
+
 const GET_STOCK: &[u8] = b"{get,[stock]}.\n";
 
 const FOUND: &[u8] = b"{ok,150}.\n";
@@ -115,6 +119,9 @@ fn a_file_without_a_log_gets_an_empty_one(rt: HostRuntime) -> Result<(), Fail> {
         for script in [b"".as_slice(), GET_STOCK] {
             let mut host = host_over(alloc, files_of(alloc, log)?, script, &[])?;
             assert_eq!(rt; run(alloc, &mut host)?, 0);
+            // Four syncs, the length and the cut.
+            let cut = image(&host, 6, None)?;
+            assert_eq!(rt; cut.l0.as_slice(), b"".as_slice());
             for fill in FILLS {
                 let after = image(&host, host.calls(), fill)?;
                 assert_eq!(rt; after.l0.as_slice(), b"\0".as_slice());
@@ -550,26 +557,42 @@ fn a_fault_in_the_opening_loses_nothing(rt: HostRuntime) -> Result<(), Fail> {
     Ok(())
 }
 
+// One call fails over a damaged log: the run ends so, after so many calls.
+fn fails_over_damage(
+    rt: &impl Abort,
+    alloc: Global,
+    log: &[u8],
+    call: u64,
+    status: u8,
+    calls: u64,
+    output: &[u8],
+) -> Result<(), Fail> {
+    let mut host = host_over(alloc, files_of(alloc, log)?, GET_STOCK, &[call])?;
+    assert_eq!(rt; run(alloc, &mut host)?, status);
+    assert_eq!(rt; host.output(), output);
+    assert_eq!(rt; host.calls(), calls);
+    Ok(())
+}
+
 #[test]
 fn a_fault_is_met_before_damage_or_in_its_line(rt: HostRuntime) -> Result<(), Fail> {
     let alloc = rt.alloc();
-    // Four syncs, two lengths and one read meet the record that lacks bytes, and call 7 gives the line. There is no call 8.
-    let rows: [(u64, u8, u64, &[u8]); 9] = [
-        (0, 5, 1, b""),
-        (1, 5, 2, b""),
-        (2, 5, 3, b""),
-        (3, 5, 4, b""),
-        (4, 5, 5, b""),
-        (5, 5, 6, b""),
-        (6, 5, 7, b""),
-        (7, 4, 8, b""),
-        (8, 1, 8, b"{damaged,1,1}.\n"),
+    // All calls of a run: four syncs, two lengths, the gates, two reads of each record up to the damaged one, and the line.
+    let rows: [(&[u8], u64, &[u8]); 4] = [
+        // A record that lacks bytes is met at its gate.
+        (&STOCK[..20], 8, b"{damaged,1,1}.\n"),
+        // Records that are no command are met behind the last gate.
+        (b"\xa5\0\0\0\x01\x04\0", 11, b"{damaged,1,1}.\n"),
+        (b"\xa5\0\0\0\0\0", 11, b"{damaged,1,1}.\n"),
+        (PUT_AND_MORE, 14, b"{damaged,1,38}.\n"),
     ];
-    for (call, status, calls, output) in rows {
-        let mut host = host_over(alloc, files_of(alloc, &STOCK[..20])?, GET_STOCK, &[call])?;
-        assert_eq!(rt; run(alloc, &mut host)?, status);
-        assert_eq!(rt; host.output(), output);
-        assert_eq!(rt; host.calls(), calls);
+    for (log, calls, line) in rows {
+        for call in 0..calls {
+            let status = if call + 1 < calls { 5 } else { 4 };
+            fails_over_damage(&rt, alloc, log, call, status, call + 1, b"")?;
+        }
+        // No call is made behind the line.
+        fails_over_damage(&rt, alloc, log, calls, 1, calls, line)?;
     }
     Ok(())
 }

@@ -2,6 +2,7 @@ use Rattle.std.proofs.Common.{inr, ◌∙◌}
 use Rattle.kh_io.specs.Disk.{file_of}
 use Rattle.kh_io.proofs.Moments.{both}
 use Rattle.khepri.proofs.Safe.{asked, was_short}
+use Rattle.khepri.proofs.Calls.{on_err, nothing_then_fault}
 use Rattle.khepri.proofs.opening.begin_log.Goals as goal
 
 pub returns-in_err-len-clause-any_moment : goal.returns-in_err-len-clause-any_moment
@@ -29,3 +30,7 @@ returns-in_ok-write_empty-clause-any_moment g c =
       log = inr (left.short, was_short _ _ c.in_ok-len.field-0 c.in_ok-len.ensures.length c.if-branch-lt2.true left.told);
       others = λ file lt other. (c.len.ensures.files file lt).only (file_of files file) (left.others file lt other);
     })
+
+pub returns-in_err-write_empty-clause-calls_at_fault : goal.returns-in_err-write_empty-clause-calls_at_fault
+returns-in_err-write_empty-clause-calls_at_fault g c =
+    on_err c.from_residual-in_err-write_empty.result (nothing_then_fault _ _ _ _ tt c.len.ensures.entry c.in_err-write_empty.ensures.calls_at_fault)

@@ -1,7 +1,8 @@
-use Rattle.std.proofs.Common.{◌∙◌, arith}
+use Rattle.std.proofs.Common.{◌∙◌, arith, rules}
 use Rattle.kh_io.proofs.Telling.{kept_both}
 use Rattle.kh_io.proofs.Staying.{stays_both}
 use Rattle.khepri.proofs.Giving.{giving_goes_on, untouched_goes_on}
+use Rattle.khepri.proofs.Calls.{on_err, more_given, give_fails}
 use Rattle.khepri.proofs.output.give_all.Goals as goal
 
 pub loop-rest-preserved : goal.loop-rest-preserved
@@ -12,6 +13,7 @@ loop-rest-preserved g c =
     record {
       giving = rw c.split_at.ensures.back (giving_goes_on (host.given c.args.host.now) (host.given c.loop-rest.host) (host.given c.give.new.self)
           c.args.piece.now c.loop-rest.rest.now c.in_ok-taken.taken before.giving call.added);
+      calls = rw c.split_at.ensures.back (more_given _ _ _ c.args.piece.now c.loop-rest.rest.now c.in_ok-taken.taken before.calls call.entry);
       no_fault = call.no_fault ∙ before.no_fault;
       files = λ file lt. stays_both (before.files file lt) (call.files file lt);
       time = untouched_goes_on (λ file lt. stays_both (before.files file lt) (call.files file lt)) before.stamp call.stamp before.time call.time;
@@ -20,3 +22,7 @@ loop-rest-preserved g c =
       read_faults = call.read_faults ∙ before.read_faults;
       disk_faults = call.disk_faults ∙ before.disk_faults;
     }
+
+pub returns-in_err-taken-clause-calls_at_fault : goal.returns-in_err-taken-clause-calls_at_fault
+returns-in_err-taken-clause-calls_at_fault g c =
+    on_err c.from_residual.result (give_fails _ _ _ c.args.piece.now c.loop-rest.rest.now (search rules) c.loop-rest.invariant.calls c.in_err-taken.ensures.entry)

@@ -7,6 +7,7 @@ use Rattle.khepri.specs.Store.{state_of}
 use Rattle.khepri.proofs.Stands.{stands_recovers, stands_stay}
 use Rattle.khepri.proofs.LogAlone.{untouched, none_touched, written_then, took_and_served, gains_nothing, gains_kept, gains_then, gains_served}
 use Rattle.khepri.proofs.Running.{view_of, starts, took_piece, took_shorter, served_on, served_stops, take_stops, all_came, finished, finish_stops, take_rose, take_reason, serve_rose}
+use Rattle.khepri.proofs.Calls.{grows_none, grows_both}
 use Rattle.khepri.proofs.run.answer_script.Goals as goal
 
 abbrev ended_by : Stop → Result (Unit {0}) Stop
@@ -29,6 +30,7 @@ pieces-init g c =
       stands = c.requires.stands;
       files = untouched _ _ _ _ _ (g.met.H.Disk.only_now c.args.host.now);
       log = gains_nothing (host.seen c.args.host.now 1);
+      grows = grows_none (host.journal c.args.host.now);
       reads = refl;
       writes = refl;
       disk = refl;
@@ -57,6 +59,9 @@ returns-in-Err-clause-log g c = λ no_fault.
     let host = g.H.Disk in
     gains_then (host.seen c.args.host.now 1) (host.seen c.pieces.host 1) (host.seen c.take_more.new.host 1)
     c.pieces.invariant.log (gains_kept _ _ (c.in-Err.ensures.files 1 (omega arith)).read)
+
+pub returns-in-Err-clause-grows : goal.returns-in-Err-clause-grows
+returns-in-Err-clause-grows g c = grows_both _ _ _ c.pieces.invariant.grows c.in-Err.ensures.grows
 
 -- a piece is taken: the reasons why none comes
 no_other : (s : Stop) → (s ≡ stop.ReadFault) ⊎ ((s ≡ stop.TooLong) ⊎ (s ≡ stop.NoMemory)) → (s ≡ stop.Damaged) ⊎ ((s ≡ stop.WriteFault) ⊎ (s ≡ stop.DiskFault)) → ⊥
@@ -130,6 +135,7 @@ pieces-preserved g c =
           (state_of c.args.store.now) (state_of c.pieces.store) (state_of c.serve.new.store) more (rw c.as_slice.ensures.value at c.in-Ok.ensures.served) c.in-Ok.ensures.input;
       stands = c.in-Ok.ensures.stands;
       files = took_and_served c.pieces.invariant.files call.files call.any_moment c.in-Ok.ensures.files;
+      grows = grows_both _ _ _ (grows_both _ _ _ c.pieces.invariant.grows call.grows) c.in-Ok.ensures.grows;
       log = gains_served (host.seen c.args.host.now 1) (host.seen c.pieces.host 1) (host.seen c.take_more.new.host 1) (host.seen c.serve.new.host 1)
           c.pieces.invariant.log (call.files 1 (omega arith)).read (c.in-Ok.ensures.log (λ e. cc));
       reads = c.in-Ok.ensures.read_faults ∙ call.no_fault ∙ c.pieces.invariant.reads;
@@ -158,6 +164,9 @@ returns-in-Err-serve-clause-log g c = λ no_fault.
     let host = g.H.Disk in
     gains_served (host.seen c.args.host.now 1) (host.seen c.pieces.host 1) (host.seen c.take_more.new.host 1) (host.seen c.serve.new.host 1)
     c.pieces.invariant.log (c.in-Ok-Some.ensures.files 1 (omega arith)).read (c.in-Err-serve.ensures.log (λ e. no_fault cc))
+
+pub returns-in-Err-serve-clause-grows : goal.returns-in-Err-serve-clause-grows
+returns-in-Err-serve-clause-grows g c = grows_both _ _ _ (grows_both _ _ _ c.pieces.invariant.grows c.in-Ok-Some.ensures.grows) c.in-Err-serve.ensures.grows
 
 pub returns-in-Err-serve-clause-damage : goal.returns-in-Err-serve-clause-damage
 returns-in-Err-serve-clause-damage g c e =
@@ -220,6 +229,9 @@ returns-in-Ok-serve-clause-log g c = λ no_fault.
     gains_served (host.seen c.args.host.now 1) (host.seen c.pieces.host 1) (host.seen c.take_more.new.host 1) (host.seen c.serve-2.new.host 1)
     c.pieces.invariant.log (c.in-Ok-None.ensures.files 1 (omega arith)).read (c.in-Ok-serve.ensures.log (λ e. cc))
 
+pub returns-in-Ok-serve-clause-grows : goal.returns-in-Ok-serve-clause-grows
+returns-in-Ok-serve-clause-grows g c = grows_both _ _ _ (grows_both _ _ _ c.pieces.invariant.grows c.in-Ok-None.ensures.grows) c.in-Ok-serve.ensures.grows
+
 pub returns-in-Ok-serve-clause-stands : goal.returns-in-Ok-serve-clause-stands
 returns-in-Ok-serve-clause-stands g c = c.in-Ok-serve.ensures.stands
 
@@ -257,6 +269,9 @@ returns-clause-log g c = λ no_fault.
     let host = g.H.Disk in
     gains_served (host.seen c.args.host.now 1) (host.seen c.pieces.host 1) (host.seen c.take_more.new.host 1) (host.seen c.serve-2.new.host 1)
     c.pieces.invariant.log (c.in-Ok-None.ensures.files 1 (omega arith)).read (c.in-Err-serve-2.ensures.log (λ e. no_fault cc))
+
+pub returns-clause-grows : goal.returns-clause-grows
+returns-clause-grows g c = grows_both _ _ _ (grows_both _ _ _ c.pieces.invariant.grows c.in-Ok-None.ensures.grows) c.in-Err-serve-2.ensures.grows
 
 pub returns-clause-damage : goal.returns-clause-damage
 returns-clause-damage g c e =

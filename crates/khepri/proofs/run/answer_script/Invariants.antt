@@ -1,6 +1,7 @@
 use Rattle.std.proofs.Common.{◌≡◌, ◌-◌, length}
 use Rattle.khepri.specs.Script.{script_limit}
 use Rattle.kh_io.specs.Told.{Told}
+use Rattle.kh_log.specs.Calls.{Grows}
 use Rattle.khepri.specs.Store.{state_of, Stands, GainsRecords, WritesLogAlone}
 use Rattle.khepri.proofs.Running.{IsRunning, view_of}
 use Rattle.khepri.proofs.run.answer_script.Given as goal
@@ -16,6 +17,7 @@ invariant-pieces g l =
       files : WritesLogAlone (host.seen l.fn.host) (host.seen l.host) (host.image l.fn.host) (host.image l.host)
           (host.moment l.fn.host) (host.moment l.host) (host.left_since l.fn.host) (host.left_since l.host);
       log : Told (host.seen l.fn.host 1) (host.seen l.host 1) GainsRecords;
+      grows : Grows (host.journal l.fn.host) (host.journal l.host);
       reads : host.read_faults l.host ≡ host.read_faults l.fn.host;
       writes : host.write_faults l.host ≡ host.write_faults l.fn.host;
       disk : host.disk_faults l.host ≡ host.disk_faults l.fn.host;

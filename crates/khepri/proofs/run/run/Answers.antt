@@ -8,9 +8,10 @@ use Rattle.khepri.specs.declared.store.OpenError.{OpenError}
 use Rattle.khepri.specs.declared.store.OpenError.TheVariants as open_error
 use Rattle.khepri.specs.Run.{stop_status, run_status, damage_line}
 use Rattle.khepri.specs.Store.{Opened, state_of, Stands}
-use Rattle.khepri.proofs.Entry.{runs_opened, runs_damaged, runs_unopened, runs_untouched, finds_damage}
+use Rattle.khepri.proofs.Entry.{runs_opened, runs_damaged, runs_faulted, runs_out, runs_untouched, finds_damage}
 use Rattle.khepri.proofs.LogAlone.{untouched, none_touched, written_then, written_tells, gains_kept, keeps_then}
 use Rattle.khepri.proofs.Safe.{all_safe, log_safe}
+use Rattle.khepri.proofs.Opened.{opened_then}
 use Rattle.khepri.proofs.run.run.Goals as goal
 
 abbrev stopped : Stop → Result (Unit {0}) Stop
@@ -43,6 +44,15 @@ is_damage stop.DiskFault e = absurd cc
 is_damage stop.TooLong e = absurd cc
 is_damage stop.NoMemory e = absurd cc
 
+is_write_fault : (s : Stop) → stop_status s ≡ 4 → s ≡ stop.WriteFault
+is_write_fault stop.Damaged e = absurd cc
+is_write_fault stop.Syntax e = absurd cc
+is_write_fault stop.ReadFault e = absurd cc
+is_write_fault stop.WriteFault e = refl
+is_write_fault stop.DiskFault e = absurd cc
+is_write_fault stop.TooLong e = absurd cc
+is_write_fault stop.NoMemory e = absurd cc
+
 -- the whole line is given exactly at the status of damage
 line_by_status : (s : Stop) (file offset : ℕ) (old new : Option (List ℕ))
     → Extends old new (λ more. IsFrontOf more (damage_line file offset) × (s ≡ stop.Damaged → more ≡ damage_line file offset))
@@ -60,7 +70,7 @@ no_other s (inr (inr e)) (inr f) = cc
 pub returns-in_default-clause-ran : goal.returns-in_default-clause-ran
 returns-in_default-clause-ran g c =
     let host = g.H.Disk in
-    runs_untouched (host.seen c.args.host.now) (host.image c.args.host.now) (host.left c.args.host.now) (host.given c.args.host.now) (host.stamp c.args.host.now)
+    runs_untouched (host.seen c.args.host.now) (host.image c.args.host.now) (host.left c.args.host.now) (host.given c.args.host.now) (host.journal c.args.host.now) (host.stamp c.args.host.now)
     (host.moment c.args.host.now) (host.left_since c.args.host.now) (g.met.H.Disk.only_now c.args.host.now)
 
 pub returns-in-Ok-open-clause-ran : goal.returns-in-Ok-open-clause-ran
@@ -70,7 +80,7 @@ returns-in-Ok-open-clause-ran g c =
     let ran = c.answer_script.ensures in
     runs_opened (state_of c.in-Ok-open.store) _ (host.seen c.args.host.now) (host.seen c.open.new.host) (host.seen c.answer_script.new.host)
     (host.image c.args.host.now) (host.image c.answer_script.new.host) (host.left c.args.host.now) (host.left c.open.new.host) (host.left c.answer_script.new.host)
-    (host.given c.args.host.now) (host.given c.open.new.host) (host.given c.answer_script.new.host) (host.stamp c.args.host.now) (host.stamp c.open.new.host)
+    (host.given c.args.host.now) (host.given c.open.new.host) (host.given c.answer_script.new.host) (host.journal c.args.host.now) (host.journal c.answer_script.new.host) (host.stamp c.args.host.now) (host.stamp c.open.new.host)
     (host.moment c.args.host.now) (host.moment c.open.new.host) (host.moment c.answer_script.new.host)
     (host.left_since c.args.host.now) (host.left_since c.open.new.host) (host.left_since c.answer_script.new.host)
     opened.recovered (written_tells ran.files) opened.stamp opened.any_moment opened.input opened.sink ran.ran
@@ -85,12 +95,14 @@ returns-in-Err-Damaged-clause-ran g c =
     (host.image c.args.host.now) (host.image c.open.new.host) (host.image c.report.new.host)
     (host.left c.args.host.now) (host.left c.open.new.host) (host.left c.report.new.host)
     (host.given c.args.host.now) (host.given c.open.new.host) (host.given c.report.new.host)
+    (host.journal c.args.host.now) (host.journal c.open.new.host) (host.journal c.report.new.host)
     (host.stamp c.args.host.now) (host.stamp c.open.new.host) (host.stamp c.report.new.host)
     (host.moment c.args.host.now) (host.moment c.open.new.host) (host.moment c.report.new.host)
     (host.left_since c.args.host.now) (host.left_since c.open.new.host) (host.left_since c.report.new.host)
     (opened.damaged c.in-Err-Damaged.file c.in-Err-Damaged.offset (refused c.in-Err-Damaged.field-0-is)) opened.reads report.files opened.any_moment report.any_moment
     (λ files images. g.met.H.Disk.counts_now c.open.new.host (host.moment c.args.host.now) files opened.any_moment.later images)
     opened.input report.input opened.sink (line_by_status c.report.result c.in-Err-Damaged.file c.in-Err-Damaged.offset (host.given c.open.new.host) (host.given c.report.new.host) report.line) (reported c.report.result report.how)
+    (opened.calls_damaged c.in-Err-Damaged.file c.in-Err-Damaged.offset (refused c.in-Err-Damaged.field-0-is)) (λ e. report.calls_at_fault (is_write_fault c.report.result e))
 
 pub returns-in-Err-Damaged-clause-damage : goal.returns-in-Err-Damaged-clause-damage
 returns-in-Err-Damaged-clause-damage g c e =
@@ -124,19 +136,19 @@ pub returns-in-Err-DiskFault-clause-ran : goal.returns-in-Err-DiskFault-clause-r
 returns-in-Err-DiskFault-clause-ran g c =
     let host = g.H.Disk in
     let opened = c.in-Err-DiskFault.ensures in
-    runs_unopened 5 (host.seen c.args.host.now) (host.seen c.open.new.host) (host.image c.args.host.now) (host.image c.open.new.host)
-    (host.left c.args.host.now) (host.left c.open.new.host) (host.given c.args.host.now) (host.given c.open.new.host) (host.stamp c.args.host.now)
+    runs_faulted (host.seen c.args.host.now) (host.seen c.open.new.host) (host.image c.args.host.now) (host.image c.open.new.host)
+    (host.left c.args.host.now) (host.left c.open.new.host) (host.given c.args.host.now) (host.given c.open.new.host) (host.journal c.args.host.now) (host.journal c.open.new.host) (host.stamp c.args.host.now)
     (host.moment c.args.host.now) (host.moment c.open.new.host) (host.left_since c.args.host.now) (host.left_since c.open.new.host)
-    opened.reads opened.any_moment opened.input opened.sink (inl refl)
+    opened.reads opened.any_moment opened.input opened.sink (opened.calls_at_fault (refused c.in-Err-DiskFault.field-0-is))
 
 pub returns-clause-ran : goal.returns-clause-ran
 returns-clause-ran g c =
     let host = g.H.Disk in
     let opened = c.in-Err-NoMemory.ensures in
-    runs_unopened 6 (host.seen c.args.host.now) (host.seen c.open.new.host) (host.image c.args.host.now) (host.image c.open.new.host)
-    (host.left c.args.host.now) (host.left c.open.new.host) (host.given c.args.host.now) (host.given c.open.new.host) (host.stamp c.args.host.now)
+    runs_out (host.seen c.args.host.now) (host.seen c.open.new.host) (host.image c.args.host.now) (host.image c.open.new.host)
+    (host.left c.args.host.now) (host.left c.open.new.host) (host.given c.args.host.now) (host.given c.open.new.host) (host.journal c.args.host.now) (host.journal c.open.new.host) (host.stamp c.args.host.now)
     (host.moment c.args.host.now) (host.moment c.open.new.host) (host.left_since c.args.host.now) (host.left_since c.open.new.host)
-    opened.reads opened.any_moment opened.input opened.sink (inr refl)
+    opened.reads opened.any_moment opened.input opened.sink
 
 pub returns-in_default-clause-files : goal.returns-in_default-clause-files
 returns-in_default-clause-files g c = untouched _ _ _ _ _ (g.met.H.Disk.only_now c.args.host.now)
@@ -188,8 +200,16 @@ returns-in-Ok-open-clause-log g c = λ no_fault enough.
     keeps_then (host.seen c.args.host.now 1) (host.seen c.open.new.host 1) (host.seen c.answer_script.new.host 1)
     (c.in-Ok-open.ensures.begun (opened_whole c.in-Ok-open.store)) (c.answer_script.ensures.log no_fault)
 
+pub returns-in-Ok-open-clause-opening : goal.returns-in-Ok-open-clause-opening
+returns-in-Ok-open-clause-opening g c = λ no_fault enough.
+    opened_then _ _ _ _ _ _ _ c.in-Ok-open.ensures.calls (c.answer_script.ensures.files.reads 1 (omega arith)) c.answer_script.ensures.grows
+
 pub returns-in-Err-Damaged-clause-log : goal.returns-in-Err-Damaged-clause-log
 returns-in-Err-Damaged-clause-log g c = λ no_fault enough.
     let host = g.H.Disk in
     keeps_then (host.seen c.args.host.now 1) (host.seen c.open.new.host 1) (host.seen c.report.new.host 1)
     (c.in-Err-Damaged.ensures.begun (damaged_whole c.in-Err-Damaged.field-0-is)) (gains_kept _ _ (c.report.ensures.files 1 (omega arith)).read)
+
+pub returns-in-Err-Damaged-clause-opening : goal.returns-in-Err-Damaged-clause-opening
+returns-in-Err-Damaged-clause-opening g c = λ no_fault enough.
+    opened_then _ _ _ _ _ _ _ (c.in-Err-Damaged.ensures.calls_damaged c.in-Err-Damaged.file c.in-Err-Damaged.offset (refused c.in-Err-Damaged.field-0-is)) (c.report.ensures.files 1 (omega arith)).read c.report.ensures.grows

@@ -6,6 +6,7 @@ use Rattle.khepri.proofs.Stands.{stands_recovers}
 use Rattle.khepri.proofs.LogAlone.{untouched, written_then, gains_nothing, gains_then}
 use Rattle.khepri.proofs.Admitted.{line_is_command}
 use Rattle.khepri.proofs.Lines.{counts, nothing_served, one_line, no_reply, to_fault, to_cut, to_front, some_left, rests_at_end, rests_cut}
+use Rattle.khepri.proofs.Calls.{grows_none, grows_both}
 use Rattle.khepri.proofs.session.serve.Goals as goal
 
 pub lines-init : goal.lines-init
@@ -19,6 +20,7 @@ lines-init g c =
       stands = c.requires.stands;
       files = untouched _ _ _ _ _ (g.met.H.Disk.only_now c.args.host.now);
       log = gains_nothing (host.seen c.args.host.now 1);
+      grows = grows_none (host.journal c.args.host.now);
       no_fault = refl;
       no_disk_fault = refl;
       input = kept_same (host.left c.args.host.now);
@@ -58,6 +60,7 @@ lines-preserved g c =
           before.given line.0 call.given call.any_moment call.after;
       stands = call.stands;
       files = written_then before.files call.files;
+      grows = grows_both _ _ _ before.grows call.grows;
       log = gains_then (host.seen c.args.host.now 1) (host.seen c.lines.host 1) (host.seen c.answer.new.host 1) before.log (call.log (λ e. cc));
       no_fault = call.no_fault ∙ before.no_fault;
       no_disk_fault = call.no_disk_fault ∙ before.no_disk_fault;

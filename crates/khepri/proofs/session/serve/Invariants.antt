@@ -1,5 +1,6 @@
 use Rattle.std.proofs.Common.{◌≡◌, ◌-◌, ◌≤◌, length, drop}
 use Rattle.kh_io.specs.Told.{Told, Kept}
+use Rattle.kh_log.specs.Calls.{Grows}
 use Rattle.khepri.specs.Store.{state_of, Stands, GainsRecords, WritesLogAlone}
 use Rattle.khepri.proofs.Lines.{SoFar, span_to}
 use Rattle.khepri.proofs.session.serve.Given as goal
@@ -16,6 +17,7 @@ invariant-lines g l =
       files : WritesLogAlone (host.seen l.fn.host) (host.seen l.host) (host.image l.fn.host) (host.image l.host)
           (host.moment l.fn.host) (host.moment l.host) (host.left_since l.fn.host) (host.left_since l.host);
       log : Told (host.seen l.fn.host 1) (host.seen l.host 1) GainsRecords;
+      grows : Grows (host.journal l.fn.host) (host.journal l.host);
       no_fault : host.write_faults l.host ≡ host.write_faults l.fn.host;
       no_disk_fault : host.disk_faults l.host ≡ host.disk_faults l.fn.host;
       input : Kept (host.left l.fn.host) (host.left l.host);

@@ -1,6 +1,7 @@
-use Rattle.std.proofs.Common.{◌≡◌, ◌<◌, Err, Some, sym, ap, arith}
+use Rattle.std.proofs.Common.{◌≡◌, ◌<◌, ◌+◌, length, Err, Some, sym, ap, arith}
 use Rattle.kh_io.specs.Disk.{TellsFiles}
 use Rattle.kh_io.proofs.Moments.{both}
+use Rattle.kh_io.proofs.Telling.{told_map}
 use Rattle.kh_log.specs.Records.{records_of, lacking_in}
 use Rattle.kh_io.proofs.Staying.{stays_both}
 use Rattle.khepri.specs.State.{empty}
@@ -8,6 +9,8 @@ use Rattle.khepri.specs.Recovery.{Recovered, Damaged, Replays, ReplaysUnless}
 use Rattle.khepri.proofs.Safe.{still_safe, all_safe, log_safe}
 use Rattle.khepri.proofs.Open.{synced, begins, opens, read_on, told_back, files_told, content_before, lacking_before, replays_before, lacks_at, lacks_recovers, closed_there, there_still, begun_between}
 use Rattle.khepri.proofs.LogAlone.{read_alone, synced_alone, begun_alone, written_then}
+use Rattle.khepri.proofs.Replaying.{fault_opening}
+use Rattle.khepri.proofs.Opened.{opened_by, gates_read, records_read, FailsIn, sync_fails_in, begin_fails_in, begins_by, open_fails_in, replay_fails_in}
 use Rattle.khepri.proofs.store.Store.open.Goals as goal
 
 -- while a log is begun
@@ -164,3 +167,67 @@ pub returns-clause-begun : goal.returns-clause-begun
 returns-clause-begun g c = λ no_fault.
     begun_between _ _ _ _ (c.sync_all.ensures.reads 1 (omega arith)) c.in_ok-begin_log.ensures.begun
     (stays_both (c.open.ensures.files 1 (omega arith)) (c.replay.ensures.files 1 (omega arith))).read
+
+-- the calls
+pub returns-in_err-log-clause-calls_damaged : goal.returns-in_err-log-clause-calls_damaged
+returns-in_err-log-clause-calls_damaged g c = λ file offset is.
+    opened_by _ _ _ _ _ _ _ _ (c.sync_all.ensures.reads 1 (omega arith)) c.in_ok-sync_all.ensures.calls c.in_ok-begin_log.ensures.calls
+    (gates_read (λ was. length (records_of was) + 1) _ _ _ _ c.open.ensures.gates)
+
+pub returns-in_err-tree-clause-calls_damaged : goal.returns-in_err-tree-clause-calls_damaged
+returns-in_err-tree-clause-calls_damaged g c = λ file offset is.
+    let from = rw is at c.from_residual-in_err-tree.ensures in
+    opened_by _ _ _ _ _ _ _ _ (c.sync_all.ensures.reads 1 (omega arith)) c.in_ok-sync_all.ensures.calls c.in_ok-begin_log.ensures.calls
+    (records_read _ _ _ _ _ _ (gates_read (λ was. length (records_of was) + 1) _ _ _ _ c.open.ensures.gates) (c.in_err-tree.ensures.calls_damaged file offset (ap Err (sym from.1))))
+
+pub returns-clause-calls : goal.returns-clause-calls
+returns-clause-calls g c =
+    opened_by _ _ _ _ _ _ _ _ (c.sync_all.ensures.reads 1 (omega arith)) c.in_ok-sync_all.ensures.calls c.in_ok-begin_log.ensures.calls
+    (records_read _ _ _ _ _ _ (gates_read (λ was. length (records_of was) + 1) _ _ _ _ c.open.ensures.gates) (told_map _ _ (c.replay.ensures.files 1 (omega arith)).read (λ was now same. c.in_ok-tree.ensures.calls)))
+
+-- and where one fails over damaged files
+pub returns-in_err-sync_all-clause-calls_at_fault : goal.returns-in_err-sync_all-clause-calls_at_fault
+returns-in_err-sync_all-clause-calls_at_fault g c = λ is.
+    let host = g.H.Disk in
+    let seen = host.seen c.args.host.now in
+    let s = c.sync_all.ensures in
+    let back : TellsFiles (host.seen c.sync_all.new.host) → TellsFiles seen = λ tells file lt. told_back _ (seen file) _ (s.reads file lt) (tells file lt) in
+    files_told seen _ (FailsIn (host.journal c.args.host.now) (host.journal c.sync_all.new.host)) _ back
+    (sync_fails_in _ _ _ _ (s.reads 1 (omega arith)) c.in_err-sync_all.ensures.calls_at_fault) (λ files fails. fails)
+
+pub returns-in_err-begin_log-clause-calls_at_fault : goal.returns-in_err-begin_log-clause-calls_at_fault
+returns-in_err-begin_log-clause-calls_at_fault g c = λ is.
+    let host = g.H.Disk in
+    let seen = host.seen c.args.host.now in
+    let back : TellsFiles (host.seen c.begin_log.new.host) → TellsFiles seen = λ tells file lt.
+    told_back _ (seen file) _ (c.sync_all.ensures.reads file lt) (told_back _ _ _ (c.begin_log.ensures.reads file lt) (tells file lt)) in
+    files_told seen _ (FailsIn (host.journal c.args.host.now) (host.journal c.begin_log.new.host)) _ back
+    (begin_fails_in _ _ _ _ _ _ _ (c.sync_all.ensures.reads 1 (omega arith)) (c.begin_log.ensures.reads 1 (omega arith)) c.in_ok-sync_all.ensures.calls c.in_err-begin_log.ensures.calls_at_fault)
+    (λ files fails. fails)
+
+pub returns-in_err-log-clause-calls_at_fault : goal.returns-in_err-log-clause-calls_at_fault
+returns-in_err-log-clause-calls_at_fault g c = λ is.
+    let host = g.H.Disk in
+    let seen = host.seen c.args.host.now in
+    let from = rw is at c.from_residual-in_err-log.ensures in
+    let fault = fault_opening c.in_err-log.field-0.0 (sym from.1) in
+    let back : TellsFiles (host.seen c.open.new.host) → TellsFiles seen = λ tells file lt.
+    told_back _ (seen file) _ (c.sync_all.ensures.reads file lt) (told_back _ _ _ (c.begin_log.ensures.reads file lt)
+    (told_back _ _ _ (c.open.ensures.files file lt).read (tells file lt))) in
+    files_told seen _ (FailsIn (host.journal c.args.host.now) (host.journal c.open.new.host)) _ back
+    (open_fails_in _ _ _ _ _ _
+    (begins_by _ _ _ _ _ _ (c.sync_all.ensures.reads 1 (omega arith)) c.in_ok-sync_all.ensures.calls c.in_ok-begin_log.ensures.begun c.in_ok-begin_log.ensures.calls)
+    (c.in_err-log.ensures.gates_at_fault (ap Err fault))) (λ files fails. fails)
+
+pub returns-in_err-tree-clause-calls_at_fault : goal.returns-in_err-tree-clause-calls_at_fault
+returns-in_err-tree-clause-calls_at_fault g c = λ is.
+    let host = g.H.Disk in
+    let seen = host.seen c.args.host.now in
+    let from = rw is at c.from_residual-in_err-tree.ensures in
+    let back : TellsFiles (host.seen c.replay.new.host) → TellsFiles seen = λ tells file lt.
+    told_back _ (seen file) _ (c.sync_all.ensures.reads file lt) (told_back _ _ _ (c.begin_log.ensures.reads file lt)
+    (told_back _ _ _ (c.open.ensures.files file lt).read (told_back _ _ _ (c.replay.ensures.files file lt).read (tells file lt)))) in
+    files_told seen _ (FailsIn (host.journal c.args.host.now) (host.journal c.replay.new.host)) _ back
+    (replay_fails_in _ _ _ _ _ _ _ _ c.in_ok-log.log
+    (begins_by _ _ _ _ _ _ (c.sync_all.ensures.reads 1 (omega arith)) c.in_ok-sync_all.ensures.calls c.in_ok-begin_log.ensures.begun c.in_ok-begin_log.ensures.calls)
+    (c.open.ensures.files 1 (omega arith)).read c.in_ok-log.ensures.found c.open.ensures.gates (c.in_err-tree.ensures.calls_at_fault (ap Err (sym from.1)))) (λ files fails. fails)
