@@ -1,11 +1,10 @@
--- Where the records of a log stand, and which bytes a read of a gate gives, for the crates above.
+-- Where the records of a log stand, for the crates above.
 use Rattle.std.proofs.Common.{◌≡◌, ℕ, zero, suc, ◌+◌, ◌<◌, ◌≤◌, List, [], ◌∷◌, length, take, drop, Some, sym, ap, subst, inl, inr, ◌∙◌, arith}
 use Rattle.std.specs.Prelude.{slice_get}
 use Rattle.std.proofs.lemmas.List.{drop-drop}
 use Rattle.std.proofs.lemmas.Bool.{cases_lt}
 use Rattle.std.proofs.lemmas.Option.{slice_get_within}
 use Rattle.kh_log.specs.Records.{length_of, Content, records_of, span}
-use Rattle.kh_log.specs.Calls.{IsOfGate}
 use Rattle.kh_log.proofs.Records.{behind_records, content_of-short}
 use Rattle.kh_log.proofs.Walk.{Nth, nth}
 
@@ -16,11 +15,6 @@ span_rises [] (suc i) j le = omega arith
 span_rises (r ∷ rs) (suc i) zero le = absurd (omega (arith, le))
 span_rises (r ∷ rs) (suc i) (suc j) le = omega (arith, span_rises rs i j (omega (arith, le)))
 
-pub span_whole : (rs : List (List ℕ)) (i : ℕ) → span (take i rs) ≤ span rs
-span_whole rs zero = omega arith
-span_whole [] (suc i) = omega arith
-span_whole (r ∷ rs) (suc i) = omega (arith, span_whole rs i)
-
 -- by the record between them, whose number this is
 pub span_more : (rs : List (List ℕ)) (i : ℕ) (r : List ℕ) → slice_get rs i ≡ Some r → span (take (i + 1) rs) ≡ span (take i rs) + 5 + length r
 span_more [] i r got = absurd cc
@@ -29,12 +23,12 @@ span_more (x ∷ rs) (suc i) r got =
     let on : suc i + 1 ≡ suc (i + 1) = omega arith in
     omega (arith, ap (λ n. span (take n (x ∷ rs))) on, span_more rs i r got)
 
-gate_length : (rs : List (List ℕ)) (i : ℕ) → i < length rs → span (take i rs) + 5 ≤ span (take (i + 1) rs)
-gate_length [] i within = absurd (omega (arith, within))
-gate_length (r ∷ rs) zero within = omega arith
-gate_length (r ∷ rs) (suc i) within =
-    let on : suc i + 1 ≡ suc (i + 1) = omega arith in
-    omega (arith, ap (λ n. span (take n (r ∷ rs))) on, gate_length rs i (omega (arith, within)))
+-- a record whose gate doesn't stand before that of another isn't before it
+pub no_earlier : (rs : List (List ℕ)) (i j : ℕ) (r : List ℕ) → slice_get rs j ≡ Some r → span (take i rs) ≤ span (take j rs) → i ≤ j
+no_earlier rs i j r got le = elim (cases_lt j i) [
+  | inl before ↦ absurd (omega (arith, le, span_more rs j r got, span_rises rs (j + 1) i (omega (arith, before))))
+  | inr other ↦ other
+]
 
 -- the length of a record stands behind its gate
 pub record_length : (bytes : List ℕ) (i : ℕ) (r : List ℕ) → slice_get (records_of bytes) i ≡ Some r → length_of (drop (span (take i (records_of bytes)) + 1) bytes) ≡ length r
@@ -54,15 +48,3 @@ record_length bytes i r got =
   where
     some_same : {x y : List ℕ} → Some x ≡ Some y → x ≡ y
     some_same e = cc
-
--- a read of a gate gives no byte from the last gate on, where it is before that
-pub gate_before : (rs : List (List ℕ)) (at asked : ℕ) (bytes : List ℕ) → IsOfGate rs (length rs) at asked bytes → at + length bytes ≤ span rs
-gate_before rs at asked bytes gate = omega (arith, gate.given, gate.place, gate_length rs gate.record_number gate.among, span_whole rs (gate.record_number + 1))
-
--- nor one of a record's bytes
-pub gate_beside : (rs : List (List ℕ)) (n i : ℕ) (r : List ℕ) (at asked : ℕ) (bytes : List ℕ) → slice_get rs i ≡ Some r → IsOfGate rs n at asked bytes
-    → (place : ℕ) → span (take i rs) + 5 ≤ place → place < span (take i rs) + 5 + length r → at ≤ place → place < at + length bytes → ⊥
-gate_beside rs n i r at asked bytes got gate place from to begins ends = elim (cases_lt i gate.record_number) [
-  | inl behind ↦ omega (arith, gate.place, begins, to, span_more rs i r got, span_rises rs (i + 1) gate.record_number (omega (arith, behind)))
-  | inr before ↦ omega (arith, gate.place, gate.given, ends, from, span_rises rs gate.record_number i before)
-]

@@ -5,7 +5,7 @@ use Rattle.std.proofs.lemmas.Bool.{cases_eq, cases_lt}
 use Rattle.std.proofs.lemmas.Bool.Decides.{nat_tests}
 use Rattle.byteorder.specs.Endian.{big_bytes}
 use Rattle.byteorder.specs.Numbers.{big_from-append, big_number-reads_back}
-use Rattle.kh_log.specs.Records.{open_gate, length_of, Content, no_content, with_record, content_from, content_of, records_of, lacking_in, span}
+use Rattle.kh_log.specs.Records.{open_gate, length_of, Content, no_content, with_record, content_from, content_of, records_of, span}
 
 -- the length stands in the first four bytes
 pub length_of-append : (h rest : List ℕ) → length h ≡ 4 → length_of (h ++ rest) ≡ length_of h
@@ -194,41 +194,4 @@ content_closed rs front gate tail is shut = elim (cases_lt (length (front ++ (ga
   | inr long ↦ (let from = content_of-front rs front (gate ∷ tail) is (omega arith) long in
       from.1 ∙ ap (with_records rs) (closed_step from.0 (span rs) gate tail shut) ∙ with_records-is rs no_content
       ∙ ap (λ (l : List (List ℕ)). record { records = l; lacking = None }) (append-nil rs))
-]
-
--- ---- where a record lacks bytes
-
-no_more : (xs ys : List (List ℕ)) → xs ≡ xs ++ ys → ys ≡ []
-no_more xs [] same = refl
-no_more xs (y ∷ ys) same = absurd (omega (arith, ap length same, length-append xs (y ∷ ys)))
-
--- where no whole record stands in front of it
-lacks_first : (n at : ℕ) (bytes : List ℕ) (offset : ℕ) → (content_from (suc n) at bytes).lacking ≡ Some offset → (content_from (suc n) at bytes).records ≡ [] → offset ≡ at + 1
-lacks_first n at [] offset lacks none = absurd cc
-lacks_first n at (gate ∷ rest) offset lacks none = elim (cases_eq gate open_gate) [
-  | inr shut ↦ (let same : (content_from (suc n) at (gate ∷ rest)).lacking ≡ None = ap (λ (c : Content). c.lacking) (closed_step n at gate rest shut) in absurd cc)
-  | inl is ↦ elim (cases_lt (length rest) (5 + length_of rest)) [
-    | inl short ↦ (let same : (content_from (suc n) at (gate ∷ rest)).lacking ≡ Some (at + 1) =
-        ap (λ (c : Content). c.lacking) (ap (λ g. content_from (suc n) at (g ∷ rest)) is ∙ lacking_step n at rest short) in cc)
-    | inr enough ↦ (let r = take (length_of rest) (drop 4 rest) in
-        let later = content_from n (at + 5 + length_of rest) (drop (4 + length_of rest) rest) in
-        let same : (content_from (suc n) at (gate ∷ rest)).records ≡ r ∷ later.records =
-        ap (λ (c : Content). c.records) (ap (λ g. content_from (suc n) at (g ∷ rest)) is ∙ whole_step n at rest enough) in absurd cc)
-  ]
-]
-
--- the gate of a record that lacks bytes is behind the whole ones
-pub lacking_place : (bytes : List ℕ) (offset : ℕ) → lacking_in bytes ≡ Some offset → (offset ≡ span (records_of bytes) + 1) × (span (records_of bytes) < length bytes)
-lacking_place bytes offset lacks = elim (cases_lt (length bytes) 2) [
-  | inl short ↦ (let none : lacking_in bytes ≡ None = ap (λ (c : Content). c.lacking) (content_of-short bytes short) in absurd cc)
-  | inr long ↦ (let rs = records_of bytes in
-      let b = behind_records bytes (omega (arith, long)) in
-      let from = content_of-front rs b.front b.rest b.records b.some (subst (λ (l : List ℕ). 2 ≤ length l) b.split long) in
-      let behind = content_from (suc from.0) (span rs) b.rest in
-      let whole : content_of bytes ≡ record { records = rs ++ behind.records; lacking = behind.lacking } = ap content_of b.split ∙ from.1 ∙ with_records-is rs behind in
-      let none = no_more rs behind.records (ap (λ (c : Content). c.records) whole) in
-      let there : behind.lacking ≡ Some offset = sym (ap (λ (c : Content). c.lacking) whole) ∙ lacks in (
-        lacks_first from.0 (span rs) b.rest offset there none,
-        omega (arith, length-front rs b.front b.records, ap length b.split, length-append b.front b.rest, b.some),
-      ))
 ]

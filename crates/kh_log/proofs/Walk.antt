@@ -8,7 +8,7 @@ use Rattle.kh_io.specs.Told.{Told, Kept}
 use Rattle.kh_io.specs.Disk.{FilesStay, LeavesOnly}
 use Rattle.kh_io.proofs.Moments.{both, images_stay}
 use Rattle.kh_io.proofs.Telling.{told_both, told_map}
-use Rattle.kh_log.specs.Records.{open_gate, length_of, Content, content_from, records_of, lacking_in, span, IsClosedAt, IsOpenAt, LacksAt, record_at}
+use Rattle.kh_log.specs.Records.{open_gate, length_of, Content, content_of, content_from, records_of, lacking_in, span, IsClosedAt, IsOpenAt, LacksAt, record_at}
 use Rattle.kh_log.specs.Log.{Place, Holds, passed, EndsAt, Reading}
 use Rattle.kh_log.proofs.Records.{behind_records, length_of-append, Front, with_records, with_records-is, content_of-front, content_of-short, nothing_behind, more_behind, lacking_step, front-append, length-front}
 use Rattle.kh_log.proofs.Append.{ends_at}
@@ -62,14 +62,16 @@ stands_closed at count bytes s closed =
     let are : s.rs ≡ records_of bytes = sym (ap (λ (c : Content). c.records) e.content) in
     (subst (λ (l : List (List ℕ)). EndsAt at l bytes) are e, s.counted ∙ ap length are)
 
-pub stands_lacks : (at count : ℕ) (bytes : List ℕ) → Stands at count bytes → 2 ≤ length bytes → LacksAt at bytes → lacking_in bytes ≡ Some (at + 1)
+pub stands_lacks : (at count : ℕ) (bytes : List ℕ) → Stands at count bytes → 2 ≤ length bytes → LacksAt at bytes → (lacking_in bytes ≡ Some (at + 1)) × (count ≡ length (records_of bytes))
 stands_lacks at count bytes s long lacks =
     let from = content_of-front s.rs s.front s.rest s.records s.some (subst (λ (l : List ℕ). 2 ≤ length l) s.split long) in
-    ap (λ (l : List ℕ). lacking_in l) s.split ∙ ap (λ (c : Content). c.lacking) (from.1
+    let none : Content = record { records = []; lacking = Some (span s.rs + 1) } in
+    let content : content_of bytes ≡ record { records = s.rs ++ []; lacking = Some (span s.rs + 1) } = ap content_of s.split ∙ from.1
     ∙ ap (λ (l : List ℕ). with_records s.rs (content_from (suc from.0) (span s.rs) l)) (sym (rest_is at count bytes s) ∙ lacks.there)
-    ∙ ap (with_records s.rs) (lacking_step from.0 (span s.rs) lacks.behind lacks.short)
-    ∙ with_records-is s.rs (record { records = []; lacking = Some (span s.rs + 1) }))
-    ∙ ap (λ k. Some (k + 1)) (sym (length-front s.rs s.front s.records) ∙ s.place)
+    ∙ ap (with_records s.rs) (lacking_step from.0 (span s.rs) lacks.behind lacks.short) ∙ with_records-is s.rs none in (
+      ap (λ (c : Content). c.lacking) content ∙ ap (λ k. Some (k + 1)) (sym (length-front s.rs s.front s.records) ∙ s.place),
+      omega (arith, s.counted, ap (λ (c : Content). length c.records) content, length-append s.rs []),
+    )
 
 -- a file that is told is at its first gate
 pub told_start : (o : Option (List ℕ)) (len : ℕ) → 2 ≤ len → IfSome o (λ bytes. length bytes ≡ len) → Told o o (λ was now. (now ≡ was) × Stands 0 0 was)
@@ -106,7 +108,7 @@ told_closed a b c at count first second = told_both a b c first second (λ x y z
 pub told_lacks : (a b c : Option (List ℕ)) (at count len : ℕ) → 2 ≤ len → IfSome b (λ bytes. length bytes ≡ len) → Told a b (λ was now. (now ≡ was) × Stands at count was) → Told b c (λ was _. LacksAt at was)
     → Told a c (λ was _. lacking_in was ≡ Some (at + 1))
 told_lacks (Some x) (Some y) (Some z) at count len long is p q =
-    stands_lacks at count x p.1 (omega (arith, long, is, ap length p.0)) (subst (LacksAt at) p.0 q)
+    (stands_lacks at count x p.1 (omega (arith, long, is, ap length p.0)) (subst (LacksAt at) p.0 q)).0
 told_lacks None (Some y) (Some z) at count len long is p q = absurd p
 told_lacks a None (Some z) at count len long is p q = absurd q
 told_lacks (Some x) b None at count len long is p q = tt

@@ -1,20 +1,18 @@
--- What the calls of a host read of a file, as its journal lists them.
-use Rattle.std.specs.Prelude.{◌≡◌, ℕ, ◌+◌, ◌<◌, ◌≤◌, true, false, List, [], ◌∷◌, ◌++◌, length, take, Option, Some, None}
-use Rattle.kh_io.specs.Told.{Extends}
+-- The calls that read a log; which of the calls that were to be made were, as the host's journal lists them.
+use Rattle.std.specs.Prelude.{◌≡◌, ℕ, zero, suc, ◌+◌, true, false, List, [], ◌∷◌, ◌++◌, map, length, take, get_or, Option, Some, None, if◌then◌else◌, nat_lt}
+use Rattle.kh_io.specs.Told.{Extends, IsFrontOf}
 use Rattle.kh_io.specs.Call.{Call, Take, Give, Len, ReadAt, WriteAt, Cut, Sync}
-use Rattle.kh_log.specs.Records.{span}
+use Rattle.kh_log.specs.Records.{records_of, span}
 
--- A call that asks for the length of this file or reads it. Where a read was answered, P holds of its place, of how many bytes it asked
--- for, and of those that it gave.
-abbrev pub Reads : ℕ → (ℕ → ℕ → List ℕ → Type 0) → Call → Type 0
-Reads file P (Len other len) = other ≡ file
-Reads file P (ReadAt other at asked (Some bytes)) = (other ≡ file) × P at asked bytes
-Reads file P (ReadAt other at asked None) = other ≡ file
-Reads file P (WriteAt other at bytes done) = ⊥
-Reads file P (Cut other len done) = ⊥
-Reads file P (Sync other done) = ⊥
-Reads file P (Take asked bytes) = ⊥
-Reads file P (Give piece taken) = ⊥
+-- a call as it is where it fails
+abbrev pub unanswered : Call → Call
+unanswered (Len file len) = Len file None
+unanswered (ReadAt file at asked bytes) = ReadAt file at asked None
+unanswered (WriteAt file at bytes done) = WriteAt file at bytes false
+unanswered (Cut file len done) = Cut file len false
+unanswered (Sync file done) = Sync file false
+unanswered (Take asked bytes) = Take asked None
+unanswered (Give piece taken) = Give piece None
 
 -- a call of the disk that failed
 abbrev pub HasFailed : Call → Type 0
@@ -31,25 +29,35 @@ HasFailed (Sync file true) = ⊥
 HasFailed (Take asked bytes) = ⊥
 HasFailed (Give piece taken) = ⊥
 
--- the last of these calls is one of the disk that failed
-pub record EndInFault (calls : List Call) : Type 0 where
+-- these calls were made, whatever each was answered
+abbrev pub AreMade : (wanted calls : List Call) → Type 0
+AreMade wanted calls = map unanswered calls ≡ wanted
+
+-- of these calls a front was made, and the last of that is one of the disk that failed
+pub record FailAmong (wanted calls : List Call) : Type 0 where
   pub before : List Call
   pub last : Call
   pub are : calls ≡ before ++ last ∷ []
   pub failed : HasFailed last
+  pub front : IsFrontOf (map unanswered calls) wanted
 
--- a read of the gate before one of the first n of these records, or behind the last of them, and of the length behind the gate
-pub record IsOfGate (rs : List (List ℕ)) (n at asked : ℕ) (bytes : List ℕ) : Type 0 where
-  pub asks : asked ≡ 5
-  pub given : length bytes ≤ 5
-  pub record_number : ℕ
-  pub among : record_number < n
-  pub place : at ≡ span (take record_number rs)
+-- the reads of the first n gates of these records, each with the length behind it
+abbrev pub gate_reads : ℕ → List (List ℕ) → ℕ → List Call
+gate_reads file rs zero = []
+gate_reads file rs (suc n) = gate_reads file rs n ++ ReadAt file (span (take n rs)) 5 None ∷ []
 
--- a read that begins before a place, and gives no byte from there on
-pub record IsBefore (place at asked : ℕ) (bytes : List ℕ) : Type 0 where
-  pub begins : at < place
-  pub ends : at + length bytes ≤ place
+-- the calls that find the records in a file of these bytes: its length, and where that isn't too short the reads of all gates
+abbrev pub open_calls : ℕ → List ℕ → List Call
+open_calls file bytes = Len file None ∷ (if nat_lt (length bytes) 2 then [] else gate_reads file (records_of bytes) (suc (length (records_of bytes))))
+
+-- the reads of the length and of the n bytes of the record behind the gate at a place
+abbrev pub record_reads : (file at n : ℕ) → List Call
+record_reads file at n = ReadAt file (at + 1) 4 None ∷ ReadAt file (at + 5) n None ∷ []
+
+-- the reads of the first n of these records
+abbrev pub records_reads : ℕ → List (List ℕ) → ℕ → List Call
+records_reads file rs zero = []
+records_reads file rs (suc n) = records_reads file rs n ++ record_reads file (span (take n rs)) (length (get_or rs n []))
 
 -- a journal lists more calls behind those that it listed
 abbrev pub Grows : Option (List Call) → Option (List Call) → Type 0

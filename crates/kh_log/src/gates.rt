@@ -1,11 +1,11 @@
 //! The gates of a file, one after the other.
-ghost use Rattle.std.specs.Prelude.{◌≡◌, ◌≤◌, ◌<◌, ◌+◌, ◌-◌, ◌*◌, ◌^◌, ℕ, List, [], length, take, drop, All, Option, None, Some, IfSome, IfNone, IfOk, OnOk, OnErr, IsErrOf};
-ghost use Rattle.kh_io.specs.Call.{ReadAt, answered_len};
+ghost use Rattle.std.specs.Prelude.{◌≡◌, ◌≤◌, ◌<◌, ◌+◌, ◌-◌, ◌*◌, ◌^◌, ℕ, suc, List, length, take, drop, Option, None, Some, IfSome, IfNone, IfOk, OnOk, IsErrOf};
+ghost use Rattle.kh_io.specs.Call.{ReadAt};
 ghost use Rattle.kh_io.specs.Told.{Told, Kept, Gains, Extends, Rose};
 ghost use Rattle.kh_io.specs.Disk.{FilesStay, LeavesOnly, IsReadAt};
 ghost use Rattle.kh_log.specs.Records.{length_of, lacking_in, records_of, span, IsClosedAt, IsOpenAt, LacksAt, record_at};
 ghost use Rattle.kh_log.specs.Log.{EndsAt, Reading};
-ghost use Rattle.kh_log.specs.Calls.{Reads, IsOfGate, IsBefore, EndInFault};
+ghost use Rattle.kh_log.specs.Calls.{AreMade, FailAmong, gate_reads, open_calls, record_reads};
 
 use crate::{LogError, OPEN};
 use byteorder::{BigEndian, ByteOrder};
@@ -42,7 +42,7 @@ pub(crate) fn gate_behind<D: Disk>(
     ensures sink { Kept (D.given disk.old) (D.given disk.new) }
     ensures read_faults { D.read_faults disk.new ≡ D.read_faults disk.old }
     ensures write_faults { D.write_faults disk.new ≡ D.write_faults disk.old }
-    ensures call { (bytes : Option (List ℕ)) × Gains (D.journal disk.old) (D.journal disk.new) (ReadAt file at 5 bytes) × (answered_len bytes ≤ 5) × (IsErrOf result LogError.DiskFault → bytes ≡ None) }
+    ensures call { (bytes : Option (List ℕ)) × Gains (D.journal disk.old) (D.journal disk.new) (ReadAt file at 5 bytes) × (IsErrOf result LogError.DiskFault → bytes ≡ None) }
 {
     let mut header = [0u8; HEADER];
     let count = disk.read_at(file, at, &mut header)?;
@@ -104,9 +104,11 @@ pub(crate) fn last_gate<D: Disk>(disk: &mut D, file: u8, len: u64) -> Result<(u6
     ensures sink { Kept (D.given disk.old) (D.given disk.new) }
     ensures read_faults { D.read_faults disk.new ≡ D.read_faults disk.old }
     ensures write_faults { D.write_faults disk.new ≡ D.write_faults disk.old }
-    ensures gates { Told (D.seen disk.old file) (D.seen disk.new file) (λ was _. Extends (D.journal disk.old) (D.journal disk.new) (All (Reads file (IsOfGate (records_of was) (length (records_of was) + 1))))) }
-    ensures gates_at_fault { IsErrOf result LogError.DiskFault → Told (D.seen disk.old file) (D.seen disk.new file) (λ was _. Extends (D.journal disk.old) (D.journal disk.new)
-        (λ calls. EndInFault calls × All (Reads file (IsOfGate (records_of was) (length (records_of was)))) calls)) }
+    ensures calls { OnOk result (Told (D.seen disk.old file) (D.seen disk.new file) (λ was _. Extends (D.journal disk.old) (D.journal disk.new) (AreMade (gate_reads file (records_of was) (suc (length (records_of was))))))) }
+    ensures calls_lacking { (o : ℕ) → IsErrOf result (LogError.NotALog o)
+        → Told (D.seen disk.old file) (D.seen disk.new file) (λ was _. Extends (D.journal disk.old) (D.journal disk.new) (AreMade (gate_reads file (records_of was) (suc (length (records_of was)))))) }
+    ensures calls_at_fault { IsErrOf result LogError.DiskFault
+        → Told (D.seen disk.old file) (D.seen disk.new file) (λ was _. Extends (D.journal disk.old) (D.journal disk.new) (FailAmong (gate_reads file (records_of was) (suc (length (records_of was)))))) }
 {
     let mut count = 0;
     let mut at = 0;
@@ -138,9 +140,11 @@ pub(crate) fn count_records<D: Disk>(disk: &mut D, file: u8) -> Result<(u64, u64
     ensures sink { Kept (D.given disk.old) (D.given disk.new) }
     ensures read_faults { D.read_faults disk.new ≡ D.read_faults disk.old }
     ensures write_faults { D.write_faults disk.new ≡ D.write_faults disk.old }
-    ensures gates { Told (D.seen disk.old file) (D.seen disk.new file) (λ was _. Extends (D.journal disk.old) (D.journal disk.new) (All (Reads file (IsOfGate (records_of was) (length (records_of was) + 1))))) }
-    ensures gates_at_fault { IsErrOf result LogError.DiskFault → Told (D.seen disk.old file) (D.seen disk.new file) (λ was _. Extends (D.journal disk.old) (D.journal disk.new)
-        (λ calls. EndInFault calls × All (Reads file (IsOfGate (records_of was) (length (records_of was)))) calls)) }
+    ensures calls { OnOk result (Told (D.seen disk.old file) (D.seen disk.new file) (λ was _. Extends (D.journal disk.old) (D.journal disk.new) (AreMade (open_calls file was)))) }
+    ensures calls_lacking { (o : ℕ) → IsErrOf result (LogError.NotALog o)
+        → Told (D.seen disk.old file) (D.seen disk.new file) (λ was _. Extends (D.journal disk.old) (D.journal disk.new) (AreMade (open_calls file was))) }
+    ensures calls_at_fault { IsErrOf result LogError.DiskFault
+        → Told (D.seen disk.old file) (D.seen disk.new file) (λ was _. Extends (D.journal disk.old) (D.journal disk.new) (FailAmong (open_calls file was))) }
 {
     let len = disk.len(file)?;
     if len < 2 {
@@ -176,8 +180,9 @@ pub(crate) fn record_bytes<D: Disk>(
     ensures sink { Kept (D.given disk.old) (D.given disk.new) }
     ensures read_faults { D.read_faults disk.new ≡ D.read_faults disk.old }
     ensures write_faults { D.write_faults disk.new ≡ D.write_faults disk.old }
-    ensures calls { IfOk result (λ bytes. Extends (D.journal disk.old) (D.journal disk.new) (All (Reads file (IsBefore (at + 6 + length bytes.items))))) }
-    ensures calls_at_fault { IsErrOf result LogError.DiskFault → Extends (D.journal disk.old) (D.journal disk.new) (λ calls. EndInFault calls × All (Reads file (IsBefore (at + 5))) calls) }
+    ensures calls { IfOk result (λ bytes. Extends (D.journal disk.old) (D.journal disk.new) (AreMade (record_reads file at (length bytes.items)))) }
+    ensures calls_at_fault { IsErrOf result LogError.DiskFault → Told (D.seen disk.old file) (D.seen disk.new file)
+        (λ was _. Extends (D.journal disk.old) (D.journal disk.new) (FailAmong (record_reads file at (length_of (drop (at + 1) was))))) }
 {
     let length = length_behind(disk, file, at, last)?;
     bytes_at(alloc, disk, file, at, length as usize)
@@ -204,7 +209,7 @@ fn length_behind<D: Disk>(disk: &mut D, file: u8, at: u64, last: u64) -> Result<
     ensures sink { Kept (D.given disk.old) (D.given disk.new) }
     ensures read_faults { D.read_faults disk.new ≡ D.read_faults disk.old }
     ensures write_faults { D.write_faults disk.new ≡ D.write_faults disk.old }
-    ensures call { (bytes : Option (List ℕ)) × Gains (D.journal disk.old) (D.journal disk.new) (ReadAt file (at + 1) 4 bytes) × (answered_len bytes ≤ 4) × (IsErrOf result LogError.DiskFault → bytes ≡ None) }
+    ensures call { (bytes : Option (List ℕ)) × Gains (D.journal disk.old) (D.journal disk.new) (ReadAt file (at + 1) 4 bytes) × (IsErrOf result LogError.DiskFault → bytes ≡ None) }
 {
     let mut header = [0u8; 4];
     let count = disk.read_at(file, at + 1, &mut header)?;
@@ -243,8 +248,8 @@ fn bytes_at<D: Disk>(
     ensures sink { Kept (D.given disk.old) (D.given disk.new) }
     ensures read_faults { D.read_faults disk.new ≡ D.read_faults disk.old }
     ensures write_faults { D.write_faults disk.new ≡ D.write_faults disk.old }
-    ensures calls { IfOk result (λ bytes. Extends (D.journal disk.old) (D.journal disk.new) (All (Reads file (IsBefore (at + 6 + length bytes.items))))) }
-    ensures calls_at_fault { IsErrOf result LogError.DiskFault → Extends (D.journal disk.old) (D.journal disk.new) (λ calls. EndInFault calls × All (Reads file (IsBefore (at + 5))) calls) }
+    ensures call { OnOk result ((bytes : Option (List ℕ)) × Gains (D.journal disk.old) (D.journal disk.new) (ReadAt file (at + 5) count bytes)) }
+    ensures call_at_fault { IsErrOf result LogError.DiskFault → Gains (D.journal disk.old) (D.journal disk.new) (ReadAt file (at + 5) count None) }
 {
     let mut bytes = vec![in alloc; 0u8; count]?;
     let found = disk.read_at(file, at + 5, &mut bytes)?;

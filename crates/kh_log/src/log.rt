@@ -1,10 +1,10 @@
 //! The log.
-ghost use Rattle.std.specs.Prelude.{◌≡◌, ◌≤◌, ◌<◌, ◌+◌, ◌^◌, ◌++◌, ℕ, List, [], length, slice_get, All, Some, IfSome, IfNone, IfOk, OnOk, OnErr, IsErrOf};
+ghost use Rattle.std.specs.Prelude.{◌≡◌, ◌≤◌, ◌<◌, ◌+◌, ◌^◌, ◌++◌, ℕ, List, [], length, drop, slice_get, Some, IfSome, IfNone, IfOk, OnOk, OnErr, IsErrOf};
 ghost use Rattle.kh_io.specs.Told.{Told, Kept, Extends, Rose};
 ghost use Rattle.kh_io.specs.Disk.{FilesStay, OthersStay, IsSafe, LeavesOnly};
-ghost use Rattle.kh_log.specs.Records.{content_of, records_of, lacking_in, log_of, span, IsClosedAt};
-ghost use Rattle.kh_log.specs.Log.{Place, Holds, EndsAt, IsBeforeOrAfter, Appending, Reading, ImagesAre, moved, passed, begun_at, whole};
-ghost use Rattle.kh_log.specs.Calls.{Grows, Reads, IsOfGate, IsBefore, EndInFault};
+ghost use Rattle.kh_log.specs.Records.{length_of, records_of, lacking_in, log_of, IsClosedAt};
+ghost use Rattle.kh_log.specs.Log.{Place, Holds, EndsAt, IsBeforeOrAfter, Appending, Reading, ImagesAre, moved, passed, begun_at};
+ghost use Rattle.kh_log.specs.Calls.{Grows, AreMade, FailAmong, open_calls, record_reads};
 
 use crate::durable::open_behind;
 use crate::gates::{count_records, record_bytes};
@@ -94,10 +94,12 @@ impl Log {
         ensures sink { Kept (H.given host.old) (H.given host.new) }
         ensures read_faults { H.read_faults host.new ≡ H.read_faults host.old }
         ensures write_faults { H.write_faults host.new ≡ H.write_faults host.old }
-        // It reads the gates and the lengths behind them, and where the disk fails not yet the last.
-        ensures gates { Told (H.seen host.old file) (H.seen host.new file) (λ was _. Extends (H.journal host.old) (H.journal host.new) (All (Reads file (IsOfGate (records_of was) (length (records_of was) + 1))))) }
-        ensures gates_at_fault { IsErrOf result LogError.DiskFault → Told (H.seen host.old file) (H.seen host.new file) (λ was _. Extends (H.journal host.old) (H.journal host.new)
-            (λ calls. EndInFault calls × All (Reads file (IsOfGate (records_of was) (length (records_of was)))) calls)) }
+        // It asks for the length of the file and reads the gates, each with the length behind it.
+        ensures calls { OnOk result (Told (H.seen host.old file) (H.seen host.new file) (λ was _. Extends (H.journal host.old) (H.journal host.new) (AreMade (open_calls file was)))) }
+        ensures calls_lacking { (o : ℕ) → IsErrOf result (LogError.NotALog o)
+            → Told (H.seen host.old file) (H.seen host.new file) (λ was _. Extends (H.journal host.old) (H.journal host.new) (AreMade (open_calls file was))) }
+        ensures calls_at_fault { IsErrOf result LogError.DiskFault
+            → Told (H.seen host.old file) (H.seen host.new file) (λ was _. Extends (H.journal host.old) (H.journal host.new) (FailAmong (open_calls file was))) }
     {
         let (records, last) = count_records(host, file)?;
         Ok(Log {
@@ -151,10 +153,11 @@ impl Log {
         ensures sink { Kept (H.given host.old) (H.given host.new) }
         ensures read_faults { H.read_faults host.new ≡ H.read_faults host.old }
         ensures write_faults { H.write_faults host.new ≡ H.write_faults host.old }
-        // It reads nothing behind the next gate, and where the disk fails nothing of the record's bytes yet.
-        ensures calls { OnOk result (Extends (H.journal host.old) (H.journal host.new) (All (Reads self.old.file (IsBefore (self.new.next + 1))))) }
-        ensures calls_at_fault { IsErrOf result LogError.DiskFault → Extends (H.journal host.old) (H.journal host.new)
-            (λ calls. EndInFault calls × All (Reads self.old.file (IsBefore (self.old.next + 5))) calls) }
+        // It reads the length of the record and its bytes.
+        ensures calls { IfOk result (λ r. IfSome r (λ bytes. Extends (H.journal host.old) (H.journal host.new) (AreMade (record_reads self.old.file self.old.next (length bytes.items))))) }
+        ensures no_calls { IfOk result (λ r. IfNone r (Extends (H.journal host.old) (H.journal host.new) (AreMade []))) }
+        ensures calls_at_fault { IsErrOf result LogError.DiskFault → Told (H.seen host.old self.old.file) (H.seen host.new self.old.file)
+            (λ was _. Extends (H.journal host.old) (H.journal host.new) (FailAmong (record_reads self.old.file self.old.next (length_of (drop (self.old.next + 1) was))))) }
     {
         if self.read == self.records {
             return Ok(None);

@@ -10,7 +10,7 @@ use Rattle.kh_log.proofs.gates.last_gate.Given as goal
 abbrev pub invariant-loop-next : goal.invariant-loop-next
 invariant-loop-next g l = record {
   told : Told (g.D.Disk.seen l.fn.disk l.file) (g.D.Disk.seen l.disk l.file) (λ was now. (now ≡ was) × Stands l.at l.count was);
-  read : GatesRead (g.D.Disk.seen l.fn.disk l.file) (g.D.Disk.seen l.disk l.file) (g.D.Disk.journal l.fn.disk) (g.D.Disk.journal l.disk) l.file (λ _. l.count);
+  read : GatesRead (g.D.Disk.seen l.fn.disk l.file) (g.D.Disk.seen l.disk l.file) (g.D.Disk.journal l.fn.disk) (g.D.Disk.journal l.disk) l.file l.count;
   len : IfSome (g.D.Disk.seen l.disk l.file) (λ bytes. length bytes ≡ l.len);
   bound : 5 * l.count ≤ l.at;
   within : l.at < l.len;
