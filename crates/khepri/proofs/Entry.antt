@@ -1,5 +1,5 @@
 -- A run from the files at entry: the store is opened, and then the script is answered, or damage is reported.
-use Rattle.std.proofs.Common.{◌≡◌, ℕ, ◌<◌, List, [], ◌++◌, Option, Some, None, refl, sym, ap, subst, ◌∙◌, inl, inr, ◌⊎◌, arith}
+use Rattle.std.proofs.Common.{◌≡◌, ℕ, ◌<◌, List, [], ◌∷◌, ◌++◌, Option, Some, None, refl, sym, ap, subst, ◌∙◌, inl, inr, ◌⊎◌, arith}
 use Rattle.std.specs.Prelude.{IfSome}
 use Rattle.std.proofs.lemmas.List.{append-nil}
 use Rattle.kh_io.specs.declared.files.Files.{Files}
@@ -73,6 +73,17 @@ damaged_left seen image given files file offset are recovers left s opening = el
 
 -- ---- an open store that answers the script
 
+-- what a crash leaves of it, and of the opening before it
+crash_opened : (first : State) (seen : ℕ → Option (List ℕ)) (image : ℕ → List ℕ → Type 0) (files : Files) (forms : List Form) (stamp m0 m1 m2 : ℕ) (past mid since : ℕ → Files → ℕ → Type 0)
+    → AreSeen seen files → Recovers files (Recovered first) → LeavesOnly m0 m1 past mid (Opening seen image stamp)
+    → LeavesOnly m1 m2 mid since (λ left s. Never left s ⊎ KeepsAnswered first forms stamp left s)
+    → LeavesOnly m0 m2 past since (λ left s. AtEntry image stamp left s ⊎ KeepsAnswered first forms stamp left s)
+crash_opened first seen image files forms stamp m0 m1 m2 past mid since are recovers opening crash =
+    both (weakened opening (opening_keeps seen image stamp files first forms are recovers)) crash (λ left s is. elim is [
+      | inl never ↦ absurd never
+      | inr keeps ↦ inr keeps
+    ])
+
 -- the same run with the opening before it
 ran_opened : (first : State) (status : ℕ) (seen : ℕ → Option (List ℕ)) (image image' : ℕ → List ℕ → Type 0) (files : Files) (input rest given : List ℕ)
     (stamp m0 m1 m2 : ℕ) (past mid since : ℕ → Files → ℕ → Type 0) → AreSeen seen files → Recovers files (Recovered first)
@@ -89,11 +100,19 @@ ran_opened first status seen image image' files input rest given stamp m0 m1 m2 
   syntax = ran.syntax;
   too_long = ran.too_long;
   read_fault = ran.read_fault;
-  disk_fault = ran.disk_fault;
-  crash = both (weakened opening (opening_keeps seen image stamp files first ran.forms are recovers)) ran.crash (λ left s is. elim is [
-    | inl never ↦ absurd never
-    | inr keeps ↦ inr keeps
-  ]);
+  disk_fault = λ is. elim (ran.disk_fault is) [
+    | inl none ↦ inl none
+    | inr doubt ↦ inr (record {
+      answered = doubt.answered;
+      form = doubt.form;
+      behind = doubt.behind;
+      are = doubt.are;
+      text = doubt.text;
+      logged = doubt.logged;
+      crash = crash_opened first seen image files (doubt.answered ++ doubt.form ∷ []) stamp m0 m1 m2 past mid since are recovers opening doubt.crash;
+    })
+  ];
+  crash = crash_opened first seen image files ran.forms stamp m0 m1 m2 past mid since are recovers opening ran.crash;
   last = ran.last;
 }
 

@@ -1,11 +1,10 @@
 -- A piece that is given in several calls.
-use Rattle.std.proofs.Common.{◌≡◌, ℕ, ◌≤◌, List, [], ◌++◌, take, drop, Option, Some, None, refl, sym, ap, subst, ◌∙◌, append_assoc, arith}
-use Rattle.std.proofs.lemmas.List.{take-append-drop, append-nil}
-use Rattle.kh_io.specs.Told.{Extends, IsFrontOf}
-use Rattle.kh_io.specs.Host.{Adds, MayAdd}
+use Rattle.std.proofs.Common.{◌≡◌, ℕ, ◌≤◌, List, ◌++◌, take, drop, Option, sym, ap, ◌∙◌, append_assoc, arith}
+use Rattle.std.proofs.lemmas.List.{take-append-drop}
+use Rattle.kh_io.specs.Host.{Adds}
 use Rattle.kh_io.specs.declared.files.Files.{Files}
-use Rattle.kh_io.specs.Disk.{AreImages, FilesStay, Elapses, LeavesOnly}
-use Rattle.kh_io.proofs.Moments.{started, goes_on, weakened, images_stay}
+use Rattle.kh_io.specs.Disk.{FilesStay, Elapses, LeavesOnly}
+use Rattle.kh_io.proofs.Moments.{goes_on, weakened, images_stay}
 use Rattle.kh_io.proofs.Telling.{told_both}
 use Rattle.khepri.specs.Output.{GivesAll}
 use Rattle.khepri.specs.Session.{Untouched}
@@ -16,10 +15,6 @@ pub record IsGiving (old now : Option (List ℕ)) (piece rest : List ℕ) : Type
   pub parts : piece ≡ front ++ rest
   pub given : GivesAll old now front
 
-pub giving_starts : (old : Option (List ℕ)) (piece : List ℕ) → IsGiving old old piece piece
-giving_starts (Some a) piece = record { front = []; parts = refl; given = sym (append-nil a) }
-giving_starts None piece = record { front = []; parts = refl; given = tt }
-
 pub giving_goes_on : (old now new : Option (List ℕ)) (piece rest : List ℕ) (n : ℕ) → IsGiving old now piece rest → Adds now new n rest
     → IsGiving old new piece (drop n rest)
 giving_goes_on old now new piece rest n giving adds = record {
@@ -27,25 +22,6 @@ giving_goes_on old now new piece rest n giving adds = record {
   parts = giving.parts ∙ ap (λ (r : List ℕ). giving.front ++ r) (sym (take-append-drop n rest)) ∙ sym (append_assoc giving.front (take n rest) (drop n rest));
   given = told_both old now new giving.given adds (λ x y z p q. q ∙ ap (λ (t : List ℕ). t ++ take n rest) p ∙ append_assoc x giving.front (take n rest));
 }
-
-pub giving_ends : (old now : Option (List ℕ)) (piece rest : List ℕ) → IsGiving old now piece rest → rest ≡ [] → GivesAll old now piece
-giving_ends old now piece rest giving none =
-    subst (λ (p : List ℕ). GivesAll old now p) (sym (giving.parts ∙ ap (λ (r : List ℕ). giving.front ++ r) none ∙ append-nil giving.front)) giving.given
-
-pub giving_fails : (old now new : Option (List ℕ)) (piece rest : List ℕ) → IsGiving old now piece rest → MayAdd now new rest
-    → Extends old new (λ more. IsFrontOf more piece)
-giving_fails old now new piece rest giving may =
-    told_both old now new giving.given may (λ x y z p q. (
-      giving.front ++ q.0,
-      q.1 ∙ ap (λ (t : List ℕ). t ++ q.0) p ∙ append_assoc x giving.front q.0,
-      (q.2.0, giving.parts ∙ ap (λ (r : List ℕ). giving.front ++ r) q.2.1 ∙ sym (append_assoc giving.front q.0 q.2.0)),
-    ))
-
--- before a call
-pub untouched_starts : {image : ℕ → List ℕ → Type 0} {stamp : ℕ} (moment : ℕ) (since : ℕ → Files → ℕ → Type 0)
-    → ((files : Files) (s : ℕ) → since moment files s → AreImages image files × (s ≡ stamp)) → LeavesOnly moment moment since since (Untouched image stamp stamp)
-untouched_starts moment since now = started moment since (λ files s there.
-    let is = now files s there in record { images = is.0; at_least = omega (arith, is.1); at_most = omega (arith, is.1) })
 
 -- one more call, of those that don't touch the files
 pub untouched_goes_on : {told : Type 0} {m0 m1 m2 : ℕ} {past mid since : ℕ → Files → ℕ → Type 0} {seen seen' : ℕ → Option (List ℕ)}

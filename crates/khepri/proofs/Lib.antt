@@ -2,7 +2,7 @@ pub mod TakeBack
 pub mod Room
 pub mod Puts
 pub mod Calls
-pub mod Meeting
+pub mod Refused
 pub mod Opened
 pub mod Deciding
 pub mod Recovery

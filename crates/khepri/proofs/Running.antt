@@ -346,6 +346,7 @@ ran_in_doubt first span image all rest given answered form whole text logged cra
     are = append_assoc answered (form ∷ []) whole.0;
     text = text;
     logged = logged;
+    crash = ran_crash_all first (answered ++ form ∷ []) span crash;
   });
   crash = ran_crash first (answered ++ form ∷ []) whole.0 span crash;
   last = λ e. absurd (omega arith);

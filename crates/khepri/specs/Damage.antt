@@ -1,40 +1,31 @@
--- How far the calls of a run have come, as the host's journal lists them: which bytes of file 1 they have read, and how much of a piece
--- the sink has taken.
-use Rattle.std.specs.Prelude.{◌≡◌, ℕ, ◌+◌, ◌-◌, ◌<◌, ◌≤◌, min, List, [], ◌∷◌, ◌++◌, length, take, drop, Any, Contains, Option, Some, None}
+-- How far the calls of a run have come, as the host's journal lists them: towards where the files are damaged, and how much of a piece the
+-- sink has taken.
+use Rattle.std.specs.Prelude.{◌≡◌, ℕ, suc, ◌+◌, ◌<◌, List, [], ◌∷◌, ◌++◌, map, length, take, Option, Some, None}
 use Rattle.kh_io.specs.Call.{Call, Take, Give, Len, ReadAt, WriteAt, Cut, Sync}
-use Rattle.kh_log.specs.Records.{length_of, lacking_in}
-use Rattle.kh_log.specs.Calls.{EndInFault}
+use Rattle.kh_log.specs.Records.{records_of, lacking_in, span}
+use Rattle.kh_log.specs.Calls.{unanswered, FailAmong, open_calls, records_reads}
+use Rattle.khepri.specs.Opening.{all_synced, begun_in}
 
--- this call gave the byte of file 1 at a place
-abbrev pub GivesByte : ℕ → Call → Type 0
-GivesByte place (ReadAt file at asked (Some bytes)) = (file ≡ 1) × (at ≤ place) × (place < at + length bytes)
-GivesByte place (ReadAt file at asked None) = ⊥
-GivesByte place (Len file len) = ⊥
-GivesByte place (WriteAt file at bytes done) = ⊥
-GivesByte place (Cut file len done) = ⊥
-GivesByte place (Sync file done) = ⊥
-GivesByte place (Take asked bytes) = ⊥
-GivesByte place (Give piece taken) = ⊥
+-- the calls that open a store over a file 1 of these bytes, up to where its records are read
+abbrev pub opening_calls : List ℕ → List Call
+opening_calls log = map unanswered (all_synced ++ begun_in log) ++ open_calls 1 log
 
--- The calls gave each byte of file 1 from a place up to another. Where these are one place, a read of no bytes there was answered.
-pub record HaveRead (from to : ℕ) (calls : List Call) : Type 0 where
-  pub bytes : (place : ℕ) → from ≤ place → place < to → Any (GivesByte place) calls
-  pub nothing : from ≡ to → Contains calls (ReadAt 1 from 0 (Some []))
+-- The last of these calls failed, and they are a front of the first ones and then the reads of these records, up to the record whose length
+-- stands at an offset.
+pub record FailAtRecord (first : List Call) (rs : List (List ℕ)) (offset : ℕ) (calls : List Call) : Type 0 where
+  pub number : ℕ
+  pub place : offset ≡ span (take number rs) + 1
+  pub fail : FailAmong (first ++ records_reads 1 rs (suc number)) calls
 
--- The calls have read where file 1 is damaged, by the offset of the record's length: of a record that lacks bytes the gate and what there
--- is of the length, of one that the store wouldn't have logged its bytes.
-abbrev pub MetUnless : Option ℕ → List ℕ → ℕ → List Call → Type 0
-MetUnless (Some lacking) log offset calls = HaveRead (offset - 1) (min (offset + 4) (length log)) calls
-MetUnless None log offset calls = HaveRead (offset + 4) (offset + 4 + length_of (drop offset log)) calls
+-- the same, of an opening whose log lacks bytes, or holds a record that the store wouldn't have logged
+abbrev pub FailUnless : Option ℕ → List ℕ → ℕ → List Call → Type 0
+FailUnless (Some lacking) log offset calls = FailAmong (opening_calls log) calls
+FailUnless None log offset calls = FailAtRecord (opening_calls log) (records_of log) offset calls
 
--- the calls have met the damage of a log at an offset
-abbrev pub HaveMet : List ℕ → ℕ → List Call → Type 0
-HaveMet log offset calls = MetUnless (lacking_in log) log offset calls
-
--- the last of these calls is one of the disk that failed, and they haven't met the damage
-pub record FailBefore (log : List ℕ) (offset : ℕ) (calls : List Call) : Type 0 where
-  pub fault : EndInFault calls
-  pub not_met : HaveMet log offset calls → ⊥
+-- The last of these calls failed, and they are a front of those that meet the damage of a log at an offset: all files are synced, the gates
+-- are read, and, unless the log lacks bytes, the records up to the one that is damage.
+abbrev pub FailBefore : List ℕ → ℕ → List Call → Type 0
+FailBefore log offset calls = FailUnless (lacking_in log) log offset calls
 
 -- the bytes that the sink has taken in a call whose answer is known
 abbrev pub taken_in : Call → List ℕ

@@ -4,7 +4,6 @@ use Rattle.kh_term.specs.declared.name.Name.{Name}
 use Rattle.kh_io.specs.declared.files.Files.{Files}
 use Rattle.kh_io.specs.Told.{IsFrontOf}
 use Rattle.kh_io.specs.Call.{Call, Take, Give, Len, ReadAt, WriteAt, Cut, Sync}
-use Rattle.kh_log.specs.Calls.{Reads}
 use Rattle.kh_read.specs.declared.form.Form.TheVariants as form
 use Rattle.kh_log.specs.declared.error.LogError.{LogError}
 use Rattle.kh_log.specs.declared.error.LogError.TheVariants as log_error
@@ -48,15 +47,15 @@ opening_error log_error.DiskFault = open_error.DiskFault
 opening_error (log_error.NotALog offset) = open_error.Damaged 1 offset
 opening_error log_error.NoMemory = open_error.NoMemory
 
--- a call of the disk that reads no bytes
-abbrev pub ReadsNothing : Call → Type 0
-ReadsNothing (Len file len) = Unit {0}
-ReadsNothing (WriteAt file at bytes done) = Unit {0}
-ReadsNothing (Cut file len done) = Unit {0}
-ReadsNothing (Sync file done) = Unit {0}
-ReadsNothing (ReadAt file at asked bytes) = ⊥
-ReadsNothing (Take asked bytes) = ⊥
-ReadsNothing (Give piece taken) = ⊥
+-- a call that asks for the length of file 1 or reads it
+abbrev pub ReadsLog : Call → Type 0
+ReadsLog (Len file len) = file ≡ 1
+ReadsLog (ReadAt file at asked bytes) = file ≡ 1
+ReadsLog (WriteAt file at bytes done) = ⊥
+ReadsLog (Cut file len done) = ⊥
+ReadsLog (Sync file done) = ⊥
+ReadsLog (Take asked bytes) = ⊥
+ReadsLog (Give piece taken) = ⊥
 
 -- all files are synced
 abbrev pub all_synced : List Call
@@ -74,7 +73,7 @@ begun_in was = Len 1 (Some (length was)) ∷ (if nat_lt (length was) 2 then empt
 pub record OpenedBy (was : List ℕ) (calls : List Call) : Type 0 where
   pub reads : List Call
   pub are : calls ≡ all_synced ++ (begun_in was ++ reads)
-  pub log : All (Reads 1 (λ at asked bytes. Unit {0})) reads
+  pub log : All ReadsLog reads
 
 -- the calls begin with those that sync all files and begin a log in a file 1 of these bytes
 abbrev pub BeginByOpening : List ℕ → List Call → Type 0

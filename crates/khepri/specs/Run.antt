@@ -51,14 +51,15 @@ IsCutOff status = (status ≡ 3) ⊎ IsUnreported status
 abbrev pub AtEntry : (ℕ → List ℕ → Type 0) → ℕ → Files → ℕ → Type 0
 AtEntry image given files s = AreImages image files × (s ≡ given)
 
--- All commands before one that is logged were answered, and of its reply nothing was given.
-pub record OneInDoubt (first : State) (forms : List Form) (given : List ℕ) : Type 0 where
+-- All commands before one that is logged were answered, and of its reply nothing was given. A crash leaves none of those behind it.
+pub record OneInDoubt (first : State) (entry : Files → ℕ → Type 0) (span : Span) (forms : List Form) (given : List ℕ) : Type 0 where
   pub answered : List Form
   pub form : Form
   pub behind : List Form
   pub are : forms ≡ answered ++ form ∷ behind
   pub text : given ≡ text_of answered first
   pub logged : IsTrue (store_logs form (state_after answered first))
+  pub crash : LeavesOnly span.from span.to span.past span.since (λ files s. entry files s ⊎ KeepsAnswered first (answered ++ form ∷ []) span.stamp files s)
 
 -- nothing
 abbrev pub Never : Files → ℕ → Type 0
@@ -81,8 +82,8 @@ pub record Ran (first : State) (status : ℕ) (entry : Files → ℕ → Type 0)
   -- 3: the lines that had come whole were answered
   pub read_fault : status ≡ 3 → (taken : List ℕ) × (come : List Form) × (input ≡ taken ++ rest) × FrontScript taken come Unfinished
       × (given ≡ text_of come first)
-  -- 5: the opening failed, and nothing was taken nor given; or one command that is logged is in doubt, and those before it were answered
-  pub disk_fault : status ≡ 5 → ((rest ≡ input) × (given ≡ [])) ⊎ OneInDoubt first forms given
+  -- 5: nothing was taken nor given; or one command that is logged is in doubt, and those before it were answered
+  pub disk_fault : status ≡ 5 → ((rest ≡ input) × (given ≡ [])) ⊎ OneInDoubt first entry span forms given
   -- a crash at any moment of the run: before the opening has done anything, or with every command that was answered
   pub crash : LeavesOnly span.from span.to span.past span.since (λ files s. entry files s ⊎ KeepsAnswered first forms span.stamp files s)
   -- 0: a crash from then on leaves the state after all commands

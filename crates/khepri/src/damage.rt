@@ -1,10 +1,8 @@
 //! The line that says where the files are damaged.
-ghost use Rattle.std.specs.Prelude.{◌≡◌, ◌≤◌, ◌⊎◌, ℤ, pos, codes, [], ◌∷◌, IfOk};
-ghost use Rattle.kh_term.specs.declared.tree.TermTree.TheVariants as tree;
+ghost use Rattle.std.specs.Prelude.{◌≡◌, ◌≢◌, ◌⊎◌, IfOk};
 ghost use Rattle.kh_io.specs.Told.{Kept, Extends, IsFrontOf, Rose};
 ghost use Rattle.kh_io.specs.Disk.{FilesStay, LeavesOnly};
 ghost use Rattle.kh_log.specs.Calls.{Grows};
-ghost use Rattle.khepri.specs.Machine.{word};
 ghost use Rattle.khepri.specs.Run.{damage_tree, damage_line};
 ghost use Rattle.khepri.specs.Session.{Untouched};
 ghost use Rattle.khepri.specs.Damage.{FailInside};
@@ -22,7 +20,7 @@ pub fn report<H: Host>(alloc: Global, host: &mut H, file: u8, offset: u64) -> St
     ensures line { Extends (H.given host.old) (H.given host.new) (λ more. IsFrontOf more (damage_line file offset) × (result ≡ Stop.Damaged → more ≡ damage_line file offset)) }
     ensures how { (result ≡ Stop.Damaged) ⊎ ((result ≡ Stop.WriteFault) ⊎ (result ≡ Stop.NoMemory)) }
     ensures fault { result ≡ Stop.WriteFault → Rose (H.write_faults host.old) (H.write_faults host.new) }
-    ensures no_fault { result ≡ Stop.Damaged → H.write_faults host.new ≡ H.write_faults host.old }
+    ensures no_fault { result ≢ Stop.WriteFault → H.write_faults host.new ≡ H.write_faults host.old }
     ensures files { FilesStay (H.seen host.old) (H.seen host.new) (H.image host.old) (H.image host.new) }
     ensures any_moment { LeavesOnly (H.moment host.old) (H.moment host.new) (H.left_since host.old) (H.left_since host.new)
         (Untouched (H.image host.old) (H.stamp host.old) (H.stamp host.new)) }

@@ -1,5 +1,5 @@
 //! The input comes in pieces.
-ghost use Rattle.std.specs.Prelude.{◌≡◌, ◌<◌, ◌≤◌, length, IfOk, IfErr, OnErr, OnOk};
+ghost use Rattle.std.specs.Prelude.{◌≡◌, ◌≢◌, ◌<◌, ◌≤◌, Err, length, IfOk, IfErr, OnErr};
 ghost use Rattle.kh_io.specs.Told.{Kept, Rose};
 ghost use Rattle.kh_io.specs.Disk.{FilesStay, LeavesOnly};
 ghost use Rattle.kh_log.specs.Calls.{Grows};
@@ -32,7 +32,7 @@ pub fn take_more<H: Host>(
     ensures taken { IfOk result (λ piece. TakesMore piece (H.left host.old) (H.left host.new) input.old.items input.new.items) }
     ensures stops { IfErr result (λ stop. TakeStops stop (H.left host.old) (H.left host.new) input.old.items (Rose (H.read_faults host.old) (H.read_faults host.new))) }
     ensures kept { OnErr result (input.new.items ≡ input.old.items) }
-    ensures no_fault { OnOk result (H.read_faults host.new ≡ H.read_faults host.old) }
+    ensures no_fault { result ≢ Err Stop.ReadFault → H.read_faults host.new ≡ H.read_faults host.old }
     ensures sink { Kept (H.given host.old) (H.given host.new) }
     ensures files { FilesStay (H.seen host.old) (H.seen host.new) (H.image host.old) (H.image host.new) }
     ensures any_moment { LeavesOnly (H.moment host.old) (H.moment host.new) (H.left_since host.old) (H.left_since host.new)

@@ -1,5 +1,5 @@
 //! One command on the tree, and its reply.
-ghost use Rattle.std.specs.Prelude.{◌≡◌, ℤ, List, Option, IfOk, OnOk, OnErr, codes, [], ◌∷◌, ◌≤◌, length};
+ghost use Rattle.std.specs.Prelude.{◌≡◌, Option, IfOk, OnOk, OnErr, codes, [], ◌∷◌, ◌≤◌, length};
 ghost use Rattle.kh_term.specs.declared.tree.TermTree.TheVariants as tree;
 ghost use Rattle.kh_term.specs.Make.{path_tree};
 ghost use Rattle.kh_read.specs.declared.form.Form.TheVariants as form;

@@ -1,11 +1,11 @@
 //! What is done to the files before a log is opened.
-ghost use Rattle.std.specs.Prelude.{◌≡◌, ◌⊎◌, ◌≤◌, ◌<◌, ℕ, List, [], ◌∷◌, All, OnOk, OnErr};
+ghost use Rattle.std.specs.Prelude.{◌≡◌, ◌⊎◌, ◌≤◌, ◌<◌, ℕ, List, [], ◌∷◌, map, OnOk, OnErr};
 ghost use Rattle.kh_io.specs.Told.{Told, Kept, Extends, Rose};
 ghost use Rattle.kh_io.specs.Disk.{OthersStay, IsSafe, LeavesOnly};
 ghost use Rattle.kh_log.specs.Log.{Reading};
-ghost use Rattle.kh_log.specs.Calls.{EndInFault};
+ghost use Rattle.kh_log.specs.Calls.{unanswered, FailAmong};
 ghost use Rattle.khepri.specs.Store.{AreSafe, IsShort, Begun, ReadsAsBefore};
-ghost use Rattle.khepri.specs.Opening.{Beginning, LeftShort, WasShort, ReadsNothing, all_synced, empty_written, begun_in};
+ghost use Rattle.khepri.specs.Opening.{Beginning, LeftShort, WasShort, all_synced, empty_written, begun_in};
 
 use kh_io::{Failed, Host};
 
@@ -24,7 +24,7 @@ pub fn sync_all<H: Host>(host: &mut H) -> Result<(), Failed>
     ensures read_faults { H.read_faults host.new ≡ H.read_faults host.old }
     ensures write_faults { H.write_faults host.new ≡ H.write_faults host.old }
     ensures calls { OnOk result (Extends (H.journal host.old) (H.journal host.new) (λ calls. calls ≡ all_synced)) }
-    ensures calls_at_fault { OnErr result (Extends (H.journal host.old) (H.journal host.new) (λ calls. EndInFault calls × All ReadsNothing calls)) }
+    ensures calls_at_fault { OnErr result (Extends (H.journal host.old) (H.journal host.new) (FailAmong (map unanswered all_synced))) }
 {
     for file in 0..4 {
         host.sync(file)?;
@@ -50,7 +50,7 @@ pub fn begin_log<H: Host>(host: &mut H) -> Result<(), Failed>
     ensures read_faults { H.read_faults host.new ≡ H.read_faults host.old }
     ensures write_faults { H.write_faults host.new ≡ H.write_faults host.old }
     ensures calls { OnOk result (Told (H.seen host.old 1) (H.seen host.new 1) (λ was _. Extends (H.journal host.old) (H.journal host.new) (λ calls. calls ≡ begun_in was))) }
-    ensures calls_at_fault { OnErr result (Extends (H.journal host.old) (H.journal host.new) (λ calls. EndInFault calls × All ReadsNothing calls)) }
+    ensures calls_at_fault { OnErr result (Told (H.seen host.old 1) (H.seen host.new 1) (λ was _. Extends (H.journal host.old) (H.journal host.new) (FailAmong (map unanswered (begun_in was))))) }
 {
     if host.len(1)? < 2 {
         write_empty(host)?;
@@ -76,7 +76,7 @@ fn write_empty<H: Host>(host: &mut H) -> Result<(), Failed>
     ensures read_faults { H.read_faults host.new ≡ H.read_faults host.old }
     ensures write_faults { H.write_faults host.new ≡ H.write_faults host.old }
     ensures calls { OnOk result (Extends (H.journal host.old) (H.journal host.new) (λ calls. calls ≡ empty_written)) }
-    ensures calls_at_fault { OnErr result (Extends (H.journal host.old) (H.journal host.new) (λ calls. EndInFault calls × All ReadsNothing calls)) }
+    ensures calls_at_fault { OnErr result (Extends (H.journal host.old) (H.journal host.new) (FailAmong (map unanswered empty_written))) }
 {
     host.cut(1, 0)?;
     host.write_at(1, 0, &[0])?;

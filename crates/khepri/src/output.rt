@@ -1,6 +1,6 @@
 //! Replies on their way out.
-ghost use Rattle.std.specs.Prelude.{◌≡◌, ◌≤◌, List, length, take, OnOk, OnErr};
-ghost use Rattle.kh_io.specs.Told.{Kept, Told, Extends, IsFrontOf, Rose};
+ghost use Rattle.std.specs.Prelude.{◌≡◌, ◌≤◌, OnOk, OnErr};
+ghost use Rattle.kh_io.specs.Told.{Kept, Extends, IsFrontOf, Rose};
 ghost use Rattle.kh_io.specs.Disk.{FilesStay, LeavesOnly};
 ghost use Rattle.kh_log.specs.Calls.{Grows};
 ghost use Rattle.khepri.specs.Output.{GivesAll};

@@ -1,14 +1,14 @@
 //! The records of a log are applied, one after another.
-ghost use Rattle.std.specs.Prelude.{◌≡◌, ◌≤◌, ◌+◌, ℕ, nat_le, length, All, IfSome, IfOk, OnOk, Ok, Err, true, false};
+ghost use Rattle.std.specs.Prelude.{◌≡◌, ◌≤◌, ◌+◌, ℕ, nat_le, [], length, All, IfSome, IfOk, OnOk, Ok, Err, true, false};
 ghost use Rattle.kh_io.specs.Told.{Told, Kept, Extends, Rose};
 ghost use Rattle.kh_io.specs.Disk.{FilesStay, LeavesOnly};
 ghost use Rattle.kh_log.specs.Records.{records_of};
 ghost use Rattle.kh_log.specs.Log.{Holds, Reading};
-ghost use Rattle.kh_log.specs.Calls.{Reads, IsBefore, EndInFault};
 ghost use Rattle.khepri.specs.declared.store.OpenError.TheVariants as open_error;
 ghost use Rattle.khepri.specs.State.{empty, log_limit};
 ghost use Rattle.khepri.specs.Recovery.{Recovered, Damaged, IsNoRecord, Replays};
-ghost use Rattle.khepri.specs.Opening.{IsRecord};
+ghost use Rattle.khepri.specs.Damage.{FailAtRecord};
+ghost use Rattle.khepri.specs.Opening.{IsRecord, ReadsLog};
 
 use crate::command::read_put;
 use crate::store::OpenError;
@@ -69,12 +69,12 @@ pub fn replay<H: Host>(alloc: Global, host: &mut H, log: &mut Log) -> Result<Tre
     ensures sink { Kept (H.given host.old) (H.given host.new) }
     ensures read_faults { H.read_faults host.new ≡ H.read_faults host.old }
     ensures write_faults { H.write_faults host.new ≡ H.write_faults host.old }
-    ensures calls { OnOk result (Extends (H.journal host.old) (H.journal host.new) (All (Reads 1 (λ at asked bytes. Unit {0})))) }
+    ensures calls { OnOk result (Told (H.seen host.old 1) (H.seen host.new 1) (λ _ _. Extends (H.journal host.old) (H.journal host.new) (All ReadsLog))) }
     ensures calls_damaged { (file offset : ℕ) → result ≡ Err (open_error.Damaged file offset)
-        → Told (H.seen host.old 1) (H.seen host.new 1) (λ _ _. Extends (H.journal host.old) (H.journal host.new) (All (Reads 1 (λ at asked bytes. Unit {0})))) }
-    // Where the disk fails, no byte was read of a record that is damage.
-    ensures calls_at_fault { result ≡ Err open_error.DiskFault → Told (H.seen host.old 1) (H.seen host.new 1)
-        (λ was _. (file offset : ℕ) → Replays empty (records_of was) (Damaged file offset) → Extends (H.journal host.old) (H.journal host.new) (λ calls. EndInFault calls × All (Reads 1 (IsBefore (offset + 4))) calls)) }
+        → Told (H.seen host.old 1) (H.seen host.new 1) (λ _ _. Extends (H.journal host.old) (H.journal host.new) (All ReadsLog)) }
+    // Where the disk fails and a record is damage, the last call failed, and they are reads of the records in order, of none behind it.
+    ensures calls_at_fault { result ≡ Err open_error.DiskFault → Told (H.seen host.old 1) (H.seen host.new 1) (λ was _. (file offset : ℕ)
+        → Replays empty (records_of was) (Damaged file offset) → Extends (H.journal host.old) (H.journal host.new) (FailAtRecord [] (records_of was) offset)) }
 {
     let mut tree = Tree::new(alloc)?;
     let mut span = 0;

@@ -49,9 +49,9 @@ pub fn run<H: Host>(alloc: Global, host: &mut H) -> Result<(), Stop>
     ensures reads { result ≡ Err Stop.ReadFault → Rose (H.read_faults host.old) (H.read_faults host.new) }
     ensures writes { result ≡ Err Stop.WriteFault → Rose (H.write_faults host.old) (H.write_faults host.new) }
     ensures disk { result ≡ Err Stop.DiskFault → Rose (H.disk_faults host.old) (H.disk_faults host.new) }
-    ensures no_read_fault { result ≡ Err Stop.Damaged → H.read_faults host.new ≡ H.read_faults host.old }
-    ensures no_write_fault { result ≡ Err Stop.Damaged → H.write_faults host.new ≡ H.write_faults host.old }
-    ensures no_disk_fault { result ≡ Err Stop.Damaged → H.disk_faults host.new ≡ H.disk_faults host.old }
+    ensures no_read_fault { result ≢ Err Stop.ReadFault → H.read_faults host.new ≡ H.read_faults host.old }
+    ensures no_write_fault { result ≢ Err Stop.WriteFault → H.write_faults host.new ≡ H.write_faults host.old }
+    ensures no_disk_fault { result ≢ Err Stop.DiskFault → result ≢ Err Stop.NoMemory → H.disk_faults host.new ≡ H.disk_faults host.old }
 {
     let Ok(mut buffer) = vec![in alloc; 0u8; PIECE] else {
         return Err(Stop::NoMemory);
@@ -84,6 +84,9 @@ fn answer_script<H: Host>(
     ensures reads { result ≡ Err Stop.ReadFault → Rose (H.read_faults host.old) (H.read_faults host.new) }
     ensures writes { result ≡ Err Stop.WriteFault → Rose (H.write_faults host.old) (H.write_faults host.new) }
     ensures disk { result ≡ Err Stop.DiskFault → Rose (H.disk_faults host.old) (H.disk_faults host.new) }
+    ensures no_read_fault { result ≢ Err Stop.ReadFault → H.read_faults host.new ≡ H.read_faults host.old }
+    ensures no_write_fault { result ≢ Err Stop.WriteFault → H.write_faults host.new ≡ H.write_faults host.old }
+    ensures no_disk_fault { result ≢ Err Stop.DiskFault → H.disk_faults host.new ≡ H.disk_faults host.old }
     ensures grows { Grows (H.journal host.old) (H.journal host.new) }
 {
     let mut input = Vec::new(alloc);

@@ -53,8 +53,8 @@ pub fn answer<H: Host>(
     ensures stops { IfErr result (λ stop. AnswerStops stop (Rose (H.write_faults host.old) (H.write_faults host.new)) (Rose (H.disk_faults host.old) (H.disk_faults host.new))) }
     ensures files { WritesLogAlone (H.seen host.old) (H.seen host.new) (H.image host.old) (H.image host.new) (H.moment host.old) (H.moment host.new) (H.left_since host.old) (H.left_since host.new) }
     ensures log { result ≢ Err Stop.DiskFault → Told (H.seen host.old 1) (H.seen host.new 1) GainsRecords }
-    ensures no_fault { OnOk result (H.write_faults host.new ≡ H.write_faults host.old) }
-    ensures no_disk_fault { OnOk result (H.disk_faults host.new ≡ H.disk_faults host.old) }
+    ensures no_fault { result ≢ Err Stop.WriteFault → H.write_faults host.new ≡ H.write_faults host.old }
+    ensures no_disk_fault { result ≢ Err Stop.DiskFault → H.disk_faults host.new ≡ H.disk_faults host.old }
     ensures input { Kept (H.left host.old) (H.left host.new) }
     ensures read_faults { H.read_faults host.new ≡ H.read_faults host.old }
     ensures grows { Grows (H.journal host.old) (H.journal host.new) }
@@ -94,8 +94,8 @@ pub fn serve<H: Host>(
         (H.given host.old) (H.given host.new) (Rose (H.write_faults host.old) (H.write_faults host.new)) (Rose (H.disk_faults host.old) (H.disk_faults host.new))) }
     ensures files { WritesLogAlone (H.seen host.old) (H.seen host.new) (H.image host.old) (H.image host.new) (H.moment host.old) (H.moment host.new) (H.left_since host.old) (H.left_since host.new) }
     ensures log { result ≢ Err Stop.DiskFault → Told (H.seen host.old 1) (H.seen host.new 1) GainsRecords }
-    ensures no_fault { OnOk result (H.write_faults host.new ≡ H.write_faults host.old) }
-    ensures no_disk_fault { OnOk result (H.disk_faults host.new ≡ H.disk_faults host.old) }
+    ensures no_fault { result ≢ Err Stop.WriteFault → H.write_faults host.new ≡ H.write_faults host.old }
+    ensures no_disk_fault { result ≢ Err Stop.DiskFault → H.disk_faults host.new ≡ H.disk_faults host.old }
     ensures input { Kept (H.left host.old) (H.left host.new) }
     ensures read_faults { H.read_faults host.new ≡ H.read_faults host.old }
     ensures grows { Grows (H.journal host.old) (H.journal host.new) }

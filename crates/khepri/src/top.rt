@@ -33,7 +33,8 @@ pub fn khepri<H: Host>(alloc: Global, words: &[String], host: &mut H) -> u8
     // Unless the disk failed or memory ran out, a log was begun in file 1 where there was none, and it gained records or is as it was.
     ensures log { result ≢ 5 → result ≢ 6 → result ≢ 7 → Told (H.seen host.old 1) (H.seen host.new 1) KeepsRecords }
 
-    // Its first calls sync all files, and where file 1 is shorter than 2 bytes, cut it to nothing and write and sync an empty log.
+    // Unless the disk failed or memory ran out, its first calls sync all files and, where file 1 is shorter than 2 bytes, cut it to nothing
+    // and write and sync an empty log.
     ensures opening { result ≢ 5 → result ≢ 6 → result ≢ 7 → Told (H.seen host.old 1) (H.seen host.new 1)
         (λ was _. Extends (H.journal host.old) (H.journal host.new) (BeginByOpening was)) }
 
@@ -45,12 +46,14 @@ pub fn khepri<H: Host>(alloc: Global, words: &[String], host: &mut H) -> u8
         → Stood (H.disk_faults host.old) (H.disk_faults host.new) → FilesTold (H.seen host.old) (H.seen host.new) (λ files. (found : Recovery) → Recovers files found
         → TellsEnding result found (H.left host.old) (H.left host.new) (H.given host.old) (H.given host.new)) }
     ensures damage { result ≡ 1 → FilesTold (H.seen host.old) (H.seen host.new) FindsDamage }
-    ensures no_read_fault { result ≡ 1 → H.read_faults host.new ≡ H.read_faults host.old }
-    ensures no_write_fault { result ≡ 1 → H.write_faults host.new ≡ H.write_faults host.old }
-    ensures no_disk_fault { result ≡ 1 → H.disk_faults host.new ≡ H.disk_faults host.old }
     ensures reads { result ≡ 3 → Rose (H.read_faults host.old) (H.read_faults host.new) }
     ensures writes { result ≡ 4 → Rose (H.write_faults host.old) (H.write_faults host.new) }
     ensures disk { result ≡ 5 → Rose (H.disk_faults host.old) (H.disk_faults host.new) }
+
+    // No call fails but the one that the status names; one of the disk may where memory ran out.
+    ensures no_read_fault { result ≢ 3 → H.read_faults host.new ≡ H.read_faults host.old }
+    ensures no_write_fault { result ≢ 4 → H.write_faults host.new ≡ H.write_faults host.old }
+    ensures no_disk_fault { result ≢ 5 → result ≢ 6 → H.disk_faults host.new ≡ H.disk_faults host.old }
 
     // Other words are seen before the host is touched.
     ensures words { (result ≡ 7) ↔ (are_right words.now ≡ false) }

@@ -1,8 +1,8 @@
-use Rattle.std.proofs.Common.{inr, ◌∙◌}
+use Rattle.std.proofs.Common.{inr, ◌∙◌, arith}
 use Rattle.kh_io.specs.Disk.{file_of}
 use Rattle.kh_io.proofs.Moments.{both}
 use Rattle.khepri.proofs.Safe.{asked, was_short}
-use Rattle.khepri.proofs.Calls.{on_err, nothing_then_fault}
+use Rattle.khepri.proofs.Calls.{on_err, begin_fails, begin_then_fails}
 use Rattle.khepri.proofs.opening.begin_log.Goals as goal
 
 pub returns-in_err-len-clause-any_moment : goal.returns-in_err-len-clause-any_moment
@@ -31,6 +31,10 @@ returns-in_ok-write_empty-clause-any_moment g c =
       others = λ file lt other. (c.len.ensures.files file lt).only (file_of files file) (left.others file lt other);
     })
 
+pub returns-in_err-len-clause-calls_at_fault : goal.returns-in_err-len-clause-calls_at_fault
+returns-in_err-len-clause-calls_at_fault g c = on_err c.from_residual.result (begin_fails _ _ _ _ (c.len.ensures.files 1 (omega arith)).read c.in_err-len.ensures.entry)
+
 pub returns-in_err-write_empty-clause-calls_at_fault : goal.returns-in_err-write_empty-clause-calls_at_fault
 returns-in_err-write_empty-clause-calls_at_fault g c =
-    on_err c.from_residual-in_err-write_empty.result (nothing_then_fault _ _ _ _ tt c.len.ensures.entry c.in_err-write_empty.ensures.calls_at_fault)
+    on_err c.from_residual-in_err-write_empty.result
+    (begin_then_fails _ _ _ _ _ _ c.in_ok-len.field-0 c.if-branch-lt2.true c.in_ok-len.ensures.length c.write_empty.ensures.told c.in_ok-len.ensures.entry c.in_err-write_empty.ensures.calls_at_fault)

@@ -1,18 +1,18 @@
-use Rattle.std.proofs.Common.{◌≡◌, ◌+◌, ℕ, length, Ok, Err, Some, refl, sym, ap, subst, ◌∙◌, arith, List}
+use Rattle.std.proofs.Common.{◌≡◌, ◌+◌, ℕ, length, drop, Ok, Err, Some, refl, sym, ap, subst, ◌∙◌, arith, List}
 use Rattle.std.specs.Prelude.{slice_get, IfSome}
-use Rattle.kh_io.specs.Told.{Told}
+use Rattle.kh_io.specs.Told.{Told, Extends}
 use Rattle.kh_io.proofs.Moments.{started}
-use Rattle.kh_io.proofs.Telling.{told_map, kept_same, kept_both}
+use Rattle.kh_io.proofs.Telling.{kept_same, kept_both}
 use Rattle.kh_io.proofs.Staying.{files_same, stays_both}
-use Rattle.kh_log.specs.Records.{records_of}
+use Rattle.kh_log.specs.Records.{length_of, records_of}
 use Rattle.kh_log.specs.Log.{Place, Holds}
-use Rattle.kh_log.specs.Calls.{IsBefore}
+use Rattle.kh_log.specs.Calls.{FailAmong, record_reads}
 use Rattle.kh_log.proofs.Walk.{read_both}
 use Rattle.khepri.specs.Recovery.{IsNoRecord}
 use Rattle.khepri.specs.Opening.{IsRecord}
 use Rattle.khepri.specs.State.{State}
 use Rattle.khepri.specs.Tree.{Node}
-use Rattle.khepri.proofs.Replaying.{record_within, told_none, told_more, told_refused, told_all, next_none, next_more, reads_none, reads_more, reads_log, read_fails, fault_opening}
+use Rattle.khepri.proofs.Replaying.{record_within, told_none, told_more, told_refused, told_all, next_none, next_more, reads_none, reads_more, reads_log, read_nothing, read_fails, fault_opening}
 use Rattle.khepri.proofs.replay.replay.Goals as goal
 
 pub overflow_add-result : goal.overflow_add-result
@@ -25,7 +25,7 @@ records-init g c =
       replayed = told_none _ _ _ (ap (λ (nodes : List Node). record { nodes = nodes; span = 0 }) c.in_ok-tree.ensures) c.requires.none_read;
       holds = c.requires.found;
       span = next_none _ c.args.log.now c.requires.found c.requires.none_read;
-      calls = reads_none (host.journal c.args.host.now) c.args.log.now.next;
+      calls = reads_none (host.seen c.args.host.now 1) (host.journal c.args.host.now) c.args.log.now.read c.requires.none_read;
       within = omega arith;
       file = c.requires.file;
       last = refl;
@@ -61,7 +61,7 @@ records-preserved g c =
       replayed = told_more _ _ _ (record { nodes = c.records.tree; span = c.records.span }) _ c.records.log.read c.read.new.self.read bytes i.replayed kept got is (ap (λ (p : Place). p.read) passed);
       holds = subst (λ file. IfSome (host.seen c.read.new.host file) (Holds c.read.new.self)) i.file e.holds;
       span = next_more _ _ c.records.span (5 + c.len.result) c.records.log.next c.read.new.self.next kept i.span moved;
-      calls = reads_more _ _ _ c.records.log.file c.records.log.next c.read.new.self.next i.file (omega (arith, moved)) i.calls c.in_ok-bytes.ensures.calls;
+      calls = reads_more _ _ _ _ _ _ c.records.log c.read.new.self.read bytes (i.files 1 (omega arith)).read i.calls i.holds kept got i.file (ap (λ (p : Place). p.read) passed) (rw c.in-Some.is at c.in_ok-bytes.ensures.calls);
       within = omega (arith, record_within bytes _ _ is, len);
       file = ap (λ (p : Place). p.file) passed ∙ i.file;
       last = ap (λ (p : Place). p.last) passed ∙ i.last;
@@ -99,22 +99,26 @@ returns-clause-recovered g c =
 -- the calls
 pub returns-in_err-bytes-clause-calls_at_fault : goal.returns-in_err-bytes-clause-calls_at_fault
 returns-in_err-bytes-clause-calls_at_fault g c = λ is.
+    let host = g.H.Disk in
     let i = c.records.invariant in
     let from = rw is at c.from_residual-in_err-bytes.ensures in
     let fault = fault_opening c.in_err-bytes.field-0.0 (sym from.1) in
-    read_fails _ _ _ _ _ _ (record { nodes = c.records.tree; span = c.records.span }) c.records.log.read c.records.log.file c.records.log.next i.replayed
-    (c.read.ensures.files 1 (omega arith)).read i.span i.file i.calls (c.in_err-bytes.ensures.calls_at_fault (ap Err fault))
+    let Fails : ℕ → Type 0 = λ file. Told (host.seen c.records.host file) (host.seen c.read.new.host file) (λ was _. Extends (host.journal c.records.host) (host.journal c.read.new.host)
+    (FailAmong (record_reads c.records.log.file c.records.log.next (length_of (drop (c.records.log.next + 1) was))))) in
+    read_fails _ _ _ _ _ _ (record { nodes = c.records.tree; span = c.records.span }) c.records.log i.replayed i.calls i.holds (c.read.ensures.files 1 (omega arith)).read i.span i.file
+    (subst Fails i.file (c.in_err-bytes.ensures.calls_at_fault (ap Err fault)))
 
 pub returns-then-not-branch-clause-calls_damaged : goal.returns-then-not-branch-clause-calls_damaged
 returns-then-not-branch-clause-calls_damaged g c = λ file offset is.
+    let host = g.H.Disk in
     let i = c.records.invariant in
-    let passed = rw c.in-Some.is at c.in_ok-bytes.ensures.passed in
-    let calls = reads_more _ _ _ c.records.log.file c.records.log.next c.read.new.self.next i.file (omega (arith, ap (λ (p : Place). p.next) passed)) i.calls c.in_ok-bytes.ensures.calls in
-    told_map _ _ (stays_both (i.files 1 (omega arith)) (c.read.ensures.files 1 (omega arith))).read (λ x y p. reads_log (IsBefore (c.read.new.self.next + 1)) _ _ calls)
+    let bytes = c.in-Some.bytes.items in
+    let P : ℕ → Type 0 = λ file. Told (host.seen c.records.host file) (host.seen c.read.new.host file) (λ was _. slice_get (records_of was) c.records.log.read ≡ Some bytes) in
+    let got = subst P i.file (rw c.in-Some.is at c.in_ok-bytes.ensures.next) in
+    reads_log _ _ _ _ (c.records.log.read + 1) (reads_more _ _ _ _ _ _ c.records.log (c.records.log.read + 1) bytes (i.files 1 (omega arith)).read i.calls i.holds
+    (c.read.ensures.files 1 (omega arith)).read got i.file refl (rw c.in-Some.is at c.in_ok-bytes.ensures.calls))
 
 pub returns-clause-calls : goal.returns-clause-calls
 returns-clause-calls g c =
     let i = c.records.invariant in
-    let same = rw c.in_default.is at c.in_ok-bytes.ensures.at_end in
-    reads_log (IsBefore (c.read.new.self.next + 1)) _ _
-    (reads_more _ _ _ c.records.log.file c.records.log.next c.read.new.self.next i.file (omega (arith, ap (λ (p : Place). p.next) same)) i.calls c.in_ok-bytes.ensures.calls)
+    read_nothing _ _ _ _ _ _ c.records.log.read i.calls (c.read.ensures.files 1 (omega arith)).read (rw c.in_default.is at c.in_ok-bytes.ensures.no_calls)

@@ -1,11 +1,10 @@
 use Rattle.std.proofs.Common.{◌≡◌, ◌≤◌, ◌-◌}
-use Rattle.std.specs.Prelude.{◌+◌, All, IfSome}
-use Rattle.kh_io.specs.Told.{Told, Kept, Extends}
+use Rattle.std.specs.Prelude.{IfSome}
+use Rattle.kh_io.specs.Told.{Told, Kept}
 use Rattle.kh_io.specs.Disk.{FilesStay, LeavesOnly}
 use Rattle.kh_log.specs.Log.{Holds, Reading}
-use Rattle.kh_log.specs.Calls.{Reads, IsBefore}
 use Rattle.khepri.specs.State.{log_limit}
-use Rattle.khepri.proofs.Replaying.{Replayed}
+use Rattle.khepri.proofs.Replaying.{Replayed, RecordsRead}
 use Rattle.khepri.proofs.replay.replay.Given as goal
 
 abbrev pub invariant-records : goal.invariant-records
@@ -15,7 +14,7 @@ invariant-records g l =
       replayed : Told (host.seen l.fn.host 1) (host.seen l.host 1) (λ was now. (now ≡ was) × Replayed (record { nodes = l.tree; span = l.span }) l.log.read was);
       holds : IfSome (host.seen l.host 1) (Holds l.log);
       span : IfSome (host.seen l.host 1) (λ _. l.span ≡ l.log.next);
-      calls : Extends (host.journal l.fn.host) (host.journal l.host) (All (Reads 1 (IsBefore (l.log.next + 1))));
+      calls : RecordsRead (host.seen l.fn.host 1) (host.seen l.host 1) (host.journal l.fn.host) (host.journal l.host) l.log.read;
       within : l.span ≤ log_limit;
       file : l.log.file ≡ 1;
       last : l.log.last ≡ l.fn.log.last;

@@ -100,6 +100,15 @@ returns-in-Err-clause-disk g c e =
     absurd (no_other c.in-Err.stop (take_reason c.in-Err.stop (host.left c.pieces.host) (host.left c.take_more.new.host) c.pieces.input.items _ c.in-Err.ensures.stops)
     (inr (inr (same_stop c.in-Err.stop stop.DiskFault e))))
 
+pub returns-in-Err-clause-no_read_fault : goal.returns-in-Err-clause-no_read_fault
+returns-in-Err-clause-no_read_fault g c = λ other. c.in-Err.ensures.no_fault (λ e. other cc) ∙ c.pieces.invariant.reads
+
+pub returns-in-Err-clause-no_write_fault : goal.returns-in-Err-clause-no_write_fault
+returns-in-Err-clause-no_write_fault g c = λ other. c.in-Err.ensures.write_faults ∙ c.pieces.invariant.writes
+
+pub returns-in-Err-clause-no_disk_fault : goal.returns-in-Err-clause-no_disk_fault
+returns-in-Err-clause-no_disk_fault g c = λ other. c.in-Err.ensures.disk_faults ∙ c.pieces.invariant.disk
+
 pub serve-requires-clause-stands : goal.serve-requires-clause-stands
 serve-requires-clause-stands g c =
     let host = g.H.Disk in
@@ -138,9 +147,9 @@ pieces-preserved g c =
       grows = grows_both _ _ _ (grows_both _ _ _ c.pieces.invariant.grows call.grows) c.in-Ok.ensures.grows;
       log = gains_served (host.seen c.args.host.now 1) (host.seen c.pieces.host 1) (host.seen c.take_more.new.host 1) (host.seen c.serve.new.host 1)
           c.pieces.invariant.log (call.files 1 (omega arith)).read (c.in-Ok.ensures.log (λ e. cc));
-      reads = c.in-Ok.ensures.read_faults ∙ call.no_fault ∙ c.pieces.invariant.reads;
-      writes = c.in-Ok.ensures.no_fault ∙ call.write_faults ∙ c.pieces.invariant.writes;
-      disk = c.in-Ok.ensures.no_disk_fault ∙ call.disk_faults ∙ c.pieces.invariant.disk;
+      reads = c.in-Ok.ensures.read_faults ∙ call.no_fault (λ e. cc) ∙ c.pieces.invariant.reads;
+      writes = c.in-Ok.ensures.no_fault (λ e. cc) ∙ call.write_faults ∙ c.pieces.invariant.writes;
+      disk = c.in-Ok.ensures.no_disk_fault (λ e. cc) ∙ call.disk_faults ∙ c.pieces.invariant.disk;
     }
 
 pub returns-in-Err-serve-clause-ran : goal.returns-in-Err-serve-clause-ran
@@ -193,6 +202,15 @@ returns-in-Err-serve-clause-disk g c e =
     rw (← (c.in-Ok-Some.ensures.disk_faults ∙ c.pieces.invariant.disk))
     ((serve_rose c.in-Err-serve.stop false (drop c.pieces.at c.as_slice.result.now) (state_of c.pieces.store) _ (host.given c.take_more.new.host) (host.given c.serve.new.host)
     _ _ c.in-Err-serve.ensures.stops).disk (same_stop c.in-Err-serve.stop stop.DiskFault e))
+
+pub returns-in-Err-serve-clause-no_read_fault : goal.returns-in-Err-serve-clause-no_read_fault
+returns-in-Err-serve-clause-no_read_fault g c = λ other. c.in-Err-serve.ensures.read_faults ∙ c.in-Ok-Some.ensures.no_fault (λ e. cc) ∙ c.pieces.invariant.reads
+
+pub returns-in-Err-serve-clause-no_write_fault : goal.returns-in-Err-serve-clause-no_write_fault
+returns-in-Err-serve-clause-no_write_fault g c = λ other. c.in-Err-serve.ensures.no_fault (λ e. other cc) ∙ c.in-Ok-Some.ensures.write_faults ∙ c.pieces.invariant.writes
+
+pub returns-in-Err-serve-clause-no_disk_fault : goal.returns-in-Err-serve-clause-no_disk_fault
+returns-in-Err-serve-clause-no_disk_fault g c = λ other. c.in-Err-serve.ensures.no_disk_fault (λ e. other cc) ∙ c.in-Ok-Some.ensures.disk_faults ∙ c.pieces.invariant.disk
 
 pub serve-requires-2-clause-within : goal.serve-requires-2-clause-within
 serve-requires-2-clause-within g c =
@@ -247,6 +265,15 @@ returns-in-Ok-serve-clause-writes g c e = absurd (not_ended stop.WriteFault e)
 pub returns-in-Ok-serve-clause-disk : goal.returns-in-Ok-serve-clause-disk
 returns-in-Ok-serve-clause-disk g c e = absurd (not_ended stop.DiskFault e)
 
+pub returns-in-Ok-serve-clause-no_read_fault : goal.returns-in-Ok-serve-clause-no_read_fault
+returns-in-Ok-serve-clause-no_read_fault g c = λ other. c.in-Ok-serve.ensures.read_faults ∙ c.in-Ok-None.ensures.no_fault (λ e. cc) ∙ c.pieces.invariant.reads
+
+pub returns-in-Ok-serve-clause-no_write_fault : goal.returns-in-Ok-serve-clause-no_write_fault
+returns-in-Ok-serve-clause-no_write_fault g c = λ other. c.in-Ok-serve.ensures.no_fault (λ e. cc) ∙ c.in-Ok-None.ensures.write_faults ∙ c.pieces.invariant.writes
+
+pub returns-in-Ok-serve-clause-no_disk_fault : goal.returns-in-Ok-serve-clause-no_disk_fault
+returns-in-Ok-serve-clause-no_disk_fault g c = λ other. c.in-Ok-serve.ensures.no_disk_fault (λ e. cc) ∙ c.in-Ok-None.ensures.disk_faults ∙ c.pieces.invariant.disk
+
 pub returns-clause-ran : goal.returns-clause-ran
 returns-clause-ran g c =
     let host = g.H.Disk in
@@ -298,3 +325,12 @@ returns-clause-disk g c e =
     rw (← (c.in-Ok-None.ensures.disk_faults ∙ c.pieces.invariant.disk))
     ((serve_rose c.in-Err-serve-2.stop true (drop c.pieces.at c.as_slice-2.result.now) (state_of c.pieces.store) _ (host.given c.take_more.new.host) (host.given c.serve-2.new.host)
     _ _ c.in-Err-serve-2.ensures.stops).disk (same_stop c.in-Err-serve-2.stop stop.DiskFault e))
+
+pub returns-clause-no_read_fault : goal.returns-clause-no_read_fault
+returns-clause-no_read_fault g c = λ other. c.in-Err-serve-2.ensures.read_faults ∙ c.in-Ok-None.ensures.no_fault (λ e. cc) ∙ c.pieces.invariant.reads
+
+pub returns-clause-no_write_fault : goal.returns-clause-no_write_fault
+returns-clause-no_write_fault g c = λ other. c.in-Err-serve-2.ensures.no_fault (λ e. other cc) ∙ c.in-Ok-None.ensures.write_faults ∙ c.pieces.invariant.writes
+
+pub returns-clause-no_disk_fault : goal.returns-clause-no_disk_fault
+returns-clause-no_disk_fault g c = λ other. c.in-Err-serve-2.ensures.no_disk_fault (λ e. other cc) ∙ c.in-Ok-None.ensures.disk_faults ∙ c.pieces.invariant.disk

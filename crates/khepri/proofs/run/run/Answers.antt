@@ -122,14 +122,14 @@ pub returns-in-Err-Damaged-clause-disk : goal.returns-in-Err-Damaged-clause-disk
 returns-in-Err-Damaged-clause-disk g c e = absurd (no_other c.report.result c.report.ensures.how (inr (same_stop c.report.result stop.DiskFault e)))
 
 pub returns-in-Err-Damaged-clause-no_read_fault : goal.returns-in-Err-Damaged-clause-no_read_fault
-returns-in-Err-Damaged-clause-no_read_fault g c e = c.report.ensures.read_faults ∙ c.in-Err-Damaged.ensures.read_faults
+returns-in-Err-Damaged-clause-no_read_fault g c other = c.report.ensures.read_faults ∙ c.in-Err-Damaged.ensures.read_faults
 
 pub returns-in-Err-Damaged-clause-no_write_fault : goal.returns-in-Err-Damaged-clause-no_write_fault
-returns-in-Err-Damaged-clause-no_write_fault g c e =
-    c.report.ensures.no_fault (same_stop c.report.result stop.Damaged e) ∙ c.in-Err-Damaged.ensures.write_faults
+returns-in-Err-Damaged-clause-no_write_fault g c other =
+    c.report.ensures.no_fault (λ e. other (ap stopped e)) ∙ c.in-Err-Damaged.ensures.write_faults
 
 pub returns-in-Err-Damaged-clause-no_disk_fault : goal.returns-in-Err-Damaged-clause-no_disk_fault
-returns-in-Err-Damaged-clause-no_disk_fault g c e =
+returns-in-Err-Damaged-clause-no_disk_fault g c other enough =
     c.report.ensures.disk_faults ∙ c.in-Err-Damaged.ensures.no_fault_damaged c.in-Err-Damaged.file c.in-Err-Damaged.offset (refused c.in-Err-Damaged.field-0-is)
 
 pub returns-in-Err-DiskFault-clause-ran : goal.returns-in-Err-DiskFault-clause-ran

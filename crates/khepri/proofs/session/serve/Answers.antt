@@ -62,8 +62,8 @@ lines-preserved g c =
       files = written_then before.files call.files;
       grows = grows_both _ _ _ before.grows call.grows;
       log = gains_then (host.seen c.args.host.now 1) (host.seen c.lines.host 1) (host.seen c.answer.new.host 1) before.log (call.log (λ e. cc));
-      no_fault = call.no_fault ∙ before.no_fault;
-      no_disk_fault = call.no_disk_fault ∙ before.no_disk_fault;
+      no_fault = call.no_fault (λ e. cc) ∙ before.no_fault;
+      no_disk_fault = call.no_disk_fault (λ e. cc) ∙ before.no_disk_fault;
       input = kept_both (host.left c.args.host.now) (host.left c.lines.host) (host.left c.answer.new.host) before.input call.input;
       read_faults = call.read_faults ∙ before.read_faults;
     }

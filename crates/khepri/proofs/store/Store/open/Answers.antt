@@ -1,7 +1,6 @@
-use Rattle.std.proofs.Common.{◌≡◌, ◌<◌, ◌+◌, length, Err, Some, sym, ap, arith}
+use Rattle.std.proofs.Common.{◌≡◌, ◌<◌, Err, Some, sym, ap, arith}
 use Rattle.kh_io.specs.Disk.{TellsFiles}
 use Rattle.kh_io.proofs.Moments.{both}
-use Rattle.kh_io.proofs.Telling.{told_map}
 use Rattle.kh_log.specs.Records.{records_of, lacking_in}
 use Rattle.kh_io.proofs.Staying.{stays_both}
 use Rattle.khepri.specs.State.{empty}
@@ -171,19 +170,21 @@ returns-clause-begun g c = λ no_fault.
 -- the calls
 pub returns-in_err-log-clause-calls_damaged : goal.returns-in_err-log-clause-calls_damaged
 returns-in_err-log-clause-calls_damaged g c = λ file offset is.
+    let from = rw is at c.from_residual-in_err-log.ensures in
+    let why = lacks_at c.in_err-log.field-0.0 file offset (sym from.1) in
     opened_by _ _ _ _ _ _ _ _ (c.sync_all.ensures.reads 1 (omega arith)) c.in_ok-sync_all.ensures.calls c.in_ok-begin_log.ensures.calls
-    (gates_read (λ was. length (records_of was) + 1) _ _ _ _ c.open.ensures.gates)
+    (gates_read _ _ _ _ (c.in_err-log.ensures.calls_lacking offset (ap Err why.0)))
 
 pub returns-in_err-tree-clause-calls_damaged : goal.returns-in_err-tree-clause-calls_damaged
 returns-in_err-tree-clause-calls_damaged g c = λ file offset is.
     let from = rw is at c.from_residual-in_err-tree.ensures in
     opened_by _ _ _ _ _ _ _ _ (c.sync_all.ensures.reads 1 (omega arith)) c.in_ok-sync_all.ensures.calls c.in_ok-begin_log.ensures.calls
-    (records_read _ _ _ _ _ _ (gates_read (λ was. length (records_of was) + 1) _ _ _ _ c.open.ensures.gates) (c.in_err-tree.ensures.calls_damaged file offset (ap Err (sym from.1))))
+    (records_read _ _ _ _ _ _ (gates_read _ _ _ _ c.in_ok-log.ensures.calls) (c.in_err-tree.ensures.calls_damaged file offset (ap Err (sym from.1))))
 
 pub returns-clause-calls : goal.returns-clause-calls
 returns-clause-calls g c =
     opened_by _ _ _ _ _ _ _ _ (c.sync_all.ensures.reads 1 (omega arith)) c.in_ok-sync_all.ensures.calls c.in_ok-begin_log.ensures.calls
-    (records_read _ _ _ _ _ _ (gates_read (λ was. length (records_of was) + 1) _ _ _ _ c.open.ensures.gates) (told_map _ _ (c.replay.ensures.files 1 (omega arith)).read (λ was now same. c.in_ok-tree.ensures.calls)))
+    (records_read _ _ _ _ _ _ (gates_read _ _ _ _ c.in_ok-log.ensures.calls) c.in_ok-tree.ensures.calls)
 
 -- and where one fails over damaged files
 pub returns-in_err-sync_all-clause-calls_at_fault : goal.returns-in_err-sync_all-clause-calls_at_fault
@@ -202,7 +203,7 @@ returns-in_err-begin_log-clause-calls_at_fault g c = λ is.
     let back : TellsFiles (host.seen c.begin_log.new.host) → TellsFiles seen = λ tells file lt.
     told_back _ (seen file) _ (c.sync_all.ensures.reads file lt) (told_back _ _ _ (c.begin_log.ensures.reads file lt) (tells file lt)) in
     files_told seen _ (FailsIn (host.journal c.args.host.now) (host.journal c.begin_log.new.host)) _ back
-    (begin_fails_in _ _ _ _ _ _ _ (c.sync_all.ensures.reads 1 (omega arith)) (c.begin_log.ensures.reads 1 (omega arith)) c.in_ok-sync_all.ensures.calls c.in_err-begin_log.ensures.calls_at_fault)
+    (begin_fails_in _ _ _ _ _ _ (c.sync_all.ensures.reads 1 (omega arith)) c.in_ok-sync_all.ensures.calls c.in_err-begin_log.ensures.calls_at_fault)
     (λ files fails. fails)
 
 pub returns-in_err-log-clause-calls_at_fault : goal.returns-in_err-log-clause-calls_at_fault
@@ -217,7 +218,7 @@ returns-in_err-log-clause-calls_at_fault g c = λ is.
     files_told seen _ (FailsIn (host.journal c.args.host.now) (host.journal c.open.new.host)) _ back
     (open_fails_in _ _ _ _ _ _
     (begins_by _ _ _ _ _ _ (c.sync_all.ensures.reads 1 (omega arith)) c.in_ok-sync_all.ensures.calls c.in_ok-begin_log.ensures.begun c.in_ok-begin_log.ensures.calls)
-    (c.in_err-log.ensures.gates_at_fault (ap Err fault))) (λ files fails. fails)
+    (c.in_err-log.ensures.calls_at_fault (ap Err fault))) (λ files fails. fails)
 
 pub returns-in_err-tree-clause-calls_at_fault : goal.returns-in_err-tree-clause-calls_at_fault
 returns-in_err-tree-clause-calls_at_fault g c = λ is.
@@ -230,4 +231,4 @@ returns-in_err-tree-clause-calls_at_fault g c = λ is.
     files_told seen _ (FailsIn (host.journal c.args.host.now) (host.journal c.replay.new.host)) _ back
     (replay_fails_in _ _ _ _ _ _ _ _ c.in_ok-log.log
     (begins_by _ _ _ _ _ _ (c.sync_all.ensures.reads 1 (omega arith)) c.in_ok-sync_all.ensures.calls c.in_ok-begin_log.ensures.begun c.in_ok-begin_log.ensures.calls)
-    (c.open.ensures.files 1 (omega arith)).read c.in_ok-log.ensures.found c.open.ensures.gates (c.in_err-tree.ensures.calls_at_fault (ap Err (sym from.1)))) (λ files fails. fails)
+    (c.open.ensures.files 1 (omega arith)).read c.in_ok-log.ensures.found c.in_ok-log.ensures.calls (c.in_err-tree.ensures.calls_at_fault (ap Err (sym from.1)))) (λ files fails. fails)
