@@ -1,4 +1,4 @@
--- The calls that read a log; which of the calls that were to be made were, as the host's journal lists them.
+-- The calls that read a log, and which of some wanted calls were made, as the host's journal lists them.
 use Rattle.std.specs.Prelude.{◌≡◌, ℕ, zero, suc, ◌+◌, true, false, List, [], ◌∷◌, ◌++◌, map, length, take, get_or, Option, Some, None, if◌then◌else◌, nat_lt}
 use Rattle.kh_io.specs.Told.{Extends, IsFrontOf}
 use Rattle.kh_io.specs.Call.{Call, Take, Give, Len, ReadAt, WriteAt, Cut, Sync}
@@ -33,7 +33,7 @@ HasFailed (Give piece taken) = ⊥
 abbrev pub AreMade : (wanted calls : List Call) → Type 0
 AreMade wanted calls = map unanswered calls ≡ wanted
 
--- of these calls a front was made, and the last of that is one of the disk that failed
+-- a front of the wanted calls was made, and the last call made is one of the disk that failed
 pub record FailAmong (wanted calls : List Call) : Type 0 where
   pub before : List Call
   pub last : Call

@@ -34,8 +34,7 @@ pub(crate) fn gate_behind<D: Disk>(
     ensures files { FilesStay (D.seen disk.old) (D.seen disk.new) (D.image disk.old) (D.image disk.new) }
     ensures any_moment { LeavesOnly (D.moment disk.old) (D.moment disk.new) (D.left_since disk.old) (D.left_since disk.new) (Reading (D.image disk.old) (D.stamp disk.old)) }
     ensures fault { IsErrOf result LogError.DiskFault → Rose (D.disk_faults disk.old) (D.disk_faults disk.new) }
-    ensures no_fault { OnOk result (D.disk_faults disk.new ≡ D.disk_faults disk.old) }
-    ensures no_fault_lacking { (o : ℕ) → IsErrOf result (LogError.NotALog o) → D.disk_faults disk.new ≡ D.disk_faults disk.old }
+    ensures no_fault { (IsErrOf result LogError.DiskFault → ⊥) → D.disk_faults disk.new ≡ D.disk_faults disk.old }
     ensures faults_stand { D.disk_faults disk.old ≤ D.disk_faults disk.new }
     ensures stamp { D.stamp disk.new ≡ D.stamp disk.old }
     ensures input { Kept (D.left disk.old) (D.left disk.new) }
@@ -96,8 +95,7 @@ pub(crate) fn last_gate<D: Disk>(disk: &mut D, file: u8, len: u64) -> Result<(u6
     ensures files { FilesStay (D.seen disk.old) (D.seen disk.new) (D.image disk.old) (D.image disk.new) }
     ensures any_moment { LeavesOnly (D.moment disk.old) (D.moment disk.new) (D.left_since disk.old) (D.left_since disk.new) (Reading (D.image disk.old) (D.stamp disk.old)) }
     ensures fault { IsErrOf result LogError.DiskFault → Rose (D.disk_faults disk.old) (D.disk_faults disk.new) }
-    ensures no_fault { OnOk result (D.disk_faults disk.new ≡ D.disk_faults disk.old) }
-    ensures no_fault_lacking { (o : ℕ) → IsErrOf result (LogError.NotALog o) → D.disk_faults disk.new ≡ D.disk_faults disk.old }
+    ensures no_fault { (IsErrOf result LogError.DiskFault → ⊥) → D.disk_faults disk.new ≡ D.disk_faults disk.old }
     ensures faults_stand { D.disk_faults disk.old ≤ D.disk_faults disk.new }
     ensures stamp { D.stamp disk.new ≡ D.stamp disk.old }
     ensures input { Kept (D.left disk.old) (D.left disk.new) }
@@ -132,8 +130,7 @@ pub(crate) fn count_records<D: Disk>(disk: &mut D, file: u8) -> Result<(u64, u64
     ensures files { FilesStay (D.seen disk.old) (D.seen disk.new) (D.image disk.old) (D.image disk.new) }
     ensures any_moment { LeavesOnly (D.moment disk.old) (D.moment disk.new) (D.left_since disk.old) (D.left_since disk.new) (Reading (D.image disk.old) (D.stamp disk.old)) }
     ensures fault { IsErrOf result LogError.DiskFault → Rose (D.disk_faults disk.old) (D.disk_faults disk.new) }
-    ensures no_fault { OnOk result (D.disk_faults disk.new ≡ D.disk_faults disk.old) }
-    ensures no_fault_lacking { (o : ℕ) → IsErrOf result (LogError.NotALog o) → D.disk_faults disk.new ≡ D.disk_faults disk.old }
+    ensures no_fault { (IsErrOf result LogError.DiskFault → ⊥) → D.disk_faults disk.new ≡ D.disk_faults disk.old }
     ensures faults_stand { D.disk_faults disk.old ≤ D.disk_faults disk.new }
     ensures stamp { D.stamp disk.new ≡ D.stamp disk.old }
     ensures input { Kept (D.left disk.old) (D.left disk.new) }
@@ -172,8 +169,7 @@ pub(crate) fn record_bytes<D: Disk>(
     ensures files { FilesStay (D.seen disk.old) (D.seen disk.new) (D.image disk.old) (D.image disk.new) }
     ensures any_moment { LeavesOnly (D.moment disk.old) (D.moment disk.new) (D.left_since disk.old) (D.left_since disk.new) (Reading (D.image disk.old) (D.stamp disk.old)) }
     ensures fault { IsErrOf result LogError.DiskFault → Rose (D.disk_faults disk.old) (D.disk_faults disk.new) }
-    ensures no_fault { OnOk result (D.disk_faults disk.new ≡ D.disk_faults disk.old) }
-    ensures no_fault_lacking { (o : ℕ) → IsErrOf result (LogError.NotALog o) → D.disk_faults disk.new ≡ D.disk_faults disk.old }
+    ensures no_fault { (IsErrOf result LogError.DiskFault → ⊥) → D.disk_faults disk.new ≡ D.disk_faults disk.old }
     ensures faults_stand { D.disk_faults disk.old ≤ D.disk_faults disk.new }
     ensures stamp { D.stamp disk.new ≡ D.stamp disk.old }
     ensures input { Kept (D.left disk.old) (D.left disk.new) }
@@ -201,8 +197,7 @@ fn length_behind<D: Disk>(disk: &mut D, file: u8, at: u64, last: u64) -> Result<
     ensures files { FilesStay (D.seen disk.old) (D.seen disk.new) (D.image disk.old) (D.image disk.new) }
     ensures any_moment { LeavesOnly (D.moment disk.old) (D.moment disk.new) (D.left_since disk.old) (D.left_since disk.new) (Reading (D.image disk.old) (D.stamp disk.old)) }
     ensures fault { IsErrOf result LogError.DiskFault → Rose (D.disk_faults disk.old) (D.disk_faults disk.new) }
-    ensures no_fault { OnOk result (D.disk_faults disk.new ≡ D.disk_faults disk.old) }
-    ensures no_fault_lacking { (o : ℕ) → IsErrOf result (LogError.NotALog o) → D.disk_faults disk.new ≡ D.disk_faults disk.old }
+    ensures no_fault { (IsErrOf result LogError.DiskFault → ⊥) → D.disk_faults disk.new ≡ D.disk_faults disk.old }
     ensures faults_stand { D.disk_faults disk.old ≤ D.disk_faults disk.new }
     ensures stamp { D.stamp disk.new ≡ D.stamp disk.old }
     ensures input { Kept (D.left disk.old) (D.left disk.new) }
@@ -240,8 +235,7 @@ fn bytes_at<D: Disk>(
     ensures files { FilesStay (D.seen disk.old) (D.seen disk.new) (D.image disk.old) (D.image disk.new) }
     ensures any_moment { LeavesOnly (D.moment disk.old) (D.moment disk.new) (D.left_since disk.old) (D.left_since disk.new) (Reading (D.image disk.old) (D.stamp disk.old)) }
     ensures fault { IsErrOf result LogError.DiskFault → Rose (D.disk_faults disk.old) (D.disk_faults disk.new) }
-    ensures no_fault { OnOk result (D.disk_faults disk.new ≡ D.disk_faults disk.old) }
-    ensures no_fault_lacking { (o : ℕ) → IsErrOf result (LogError.NotALog o) → D.disk_faults disk.new ≡ D.disk_faults disk.old }
+    ensures no_fault { (IsErrOf result LogError.DiskFault → ⊥) → D.disk_faults disk.new ≡ D.disk_faults disk.old }
     ensures faults_stand { D.disk_faults disk.old ≤ D.disk_faults disk.new }
     ensures stamp { D.stamp disk.new ≡ D.stamp disk.old }
     ensures input { Kept (D.left disk.old) (D.left disk.new) }

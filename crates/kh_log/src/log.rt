@@ -86,8 +86,7 @@ impl Log {
         ensures files { FilesStay (H.seen host.old) (H.seen host.new) (H.image host.old) (H.image host.new) }
         ensures any_moment { LeavesOnly (H.moment host.old) (H.moment host.new) (H.left_since host.old) (H.left_since host.new) (Reading (H.image host.old) (H.stamp host.old)) }
         ensures fault { IsErrOf result LogError.DiskFault → Rose (H.disk_faults host.old) (H.disk_faults host.new) }
-        ensures no_fault { OnOk result (H.disk_faults host.new ≡ H.disk_faults host.old) }
-        ensures no_fault_lacking { (o : ℕ) → IsErrOf result (LogError.NotALog o) → H.disk_faults host.new ≡ H.disk_faults host.old }
+        ensures no_fault { (IsErrOf result LogError.DiskFault → ⊥) → H.disk_faults host.new ≡ H.disk_faults host.old }
         ensures faults_stand { H.disk_faults host.old ≤ H.disk_faults host.new }
         ensures stamp { H.stamp host.new ≡ H.stamp host.old }
         ensures input { Kept (H.left host.old) (H.left host.new) }
@@ -145,8 +144,7 @@ impl Log {
         ensures files { FilesStay (H.seen host.old) (H.seen host.new) (H.image host.old) (H.image host.new) }
         ensures any_moment { LeavesOnly (H.moment host.old) (H.moment host.new) (H.left_since host.old) (H.left_since host.new) (Reading (H.image host.old) (H.stamp host.old)) }
         ensures fault { IsErrOf result LogError.DiskFault → Rose (H.disk_faults host.old) (H.disk_faults host.new) }
-        ensures no_fault { OnOk result (H.disk_faults host.new ≡ H.disk_faults host.old) }
-        ensures no_fault_lacking { (o : ℕ) → IsErrOf result (LogError.NotALog o) → H.disk_faults host.new ≡ H.disk_faults host.old }
+        ensures no_fault { (IsErrOf result LogError.DiskFault → ⊥) → H.disk_faults host.new ≡ H.disk_faults host.old }
         ensures faults_stand { H.disk_faults host.old ≤ H.disk_faults host.new }
         ensures stamp { H.stamp host.new ≡ H.stamp host.old }
         ensures input { Kept (H.left host.old) (H.left host.new) }
