@@ -109,7 +109,7 @@ sync_fails a b c file lt first gains =
 
 -- ---- a log is begun
 
--- the length of file 1 isn't told
+-- asking for the length of file 1 failed
 pub begin_fails : (a b : Option (List ℕ)) (j0 j1 : Option (List Call)) → Kept a b → Gains j0 j1 (Len 1 None) → Told a b (λ was _. Extends j0 j1 (FailAmong (map unanswered (begun_in was))))
 begin_fails a b j0 j1 kept gains = told_map a b kept (λ x y same. told_map j0 j1 gains (λ i j q. (
   Len 1 None ∷ [],
@@ -117,7 +117,7 @@ begin_fails a b j0 j1 kept gains = told_map a b kept (λ x y same. told_map j0 j
   fail_one (Len 1 None) (map unanswered (if nat_lt (length x) 2 then empty_written else [])) tt,
 )))
 
--- it is short, and then a call of the empty log fails
+-- or, where it is short, a call that writes the empty log
 pub begin_then_fails : (a b c : Option (List ℕ)) (j0 j1 j2 : Option (List Call)) (len : ℕ) → len < 2 → Told a b (λ bytes _. len ≡ length bytes) → Told b c (λ _ _. Unit {0}) → Gains j0 j1 (Len 1 (Some len))
     → Extends j1 j2 (FailAmong (map unanswered empty_written)) → Told a c (λ was _. Extends j0 j2 (FailAmong (map unanswered (begun_in was))))
 begin_then_fails a b c j0 j1 j2 len short told later gains fails = told_both a b c told later (λ x y z is t.
@@ -134,9 +134,6 @@ taken-append (call ∷ calls) later = ap (λ (l : List ℕ). taken_in call ++ l)
 -- the calls gave the piece up to what is left of it
 abbrev pub GivenTo : (piece left : List ℕ) → List Call → Type 0
 GivenTo piece left calls = piece ≡ taken_by calls ++ left
-
-pub none_given : (journal : Option (List Call)) (piece : List ℕ) → Extends journal journal (GivenTo piece piece)
-none_given journal piece = no_calls (GivenTo piece piece) journal refl
 
 pub more_given : (a b c : Option (List Call)) (piece left : List ℕ) (n : ℕ) → Extends a b (GivenTo piece left) → Gains b c (Give left (Some n)) → Extends a c (GivenTo piece (drop n left))
 more_given a b c piece left n first gains =

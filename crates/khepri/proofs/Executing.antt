@@ -1,11 +1,12 @@
 -- A command is executed: what the store was and is, and what a crash leaves on the way.
-use Rattle.std.proofs.Common.{ℕ, ℤ, ◌≡◌, ◌+◌, nat_le, true, cond, List, [], ◌∷◌, ◌++◌, length, Option, Some, None, refl, sym, ap, subst, inl, inr, ◌∙◌, arith}
+use Rattle.std.proofs.Common.{ℕ, ℤ, ◌≡◌, ◌+◌, nat_le, true, false, Bool, cond, if◌then◌else◌, List, [], ◌∷◌, ◌++◌, length, Option, Some, None, refl, sym, ap, subst, inl, inr, ◌∙◌, arith}
 use Rattle.std.specs.Prelude.{IfSome, ◌&&◌}
 use Rattle.kh_io.specs.declared.files.Files.{Files}
 use Rattle.kh_io.specs.Told.{Told}
 use Rattle.kh_io.specs.Disk.{AreImages, IsSafe, LeavesOnly}
 use Rattle.kh_io.proofs.Moments.{started, weakened}
-use Rattle.kh_io.proofs.Telling.{told_map}
+use Rattle.std.proofs.lemmas.List.{append-nil}
+use Rattle.kh_io.proofs.Telling.{told_map, told_same}
 use Rattle.kh_log.specs.Records.{Content, content_of, records_of}
 use Rattle.kh_log.specs.Log.{Place, Holds, moved, ImagesAre, EndsAt, IsBeforeOrAfter, Appending, whole}
 use Rattle.kh_log.proofs.Opening.{settled}
@@ -15,7 +16,7 @@ use Rattle.kh_read.specs.declared.form.Form.TheVariants as form
 use Rattle.khepri.specs.Tree.{Node}
 use Rattle.khepri.specs.Machine.{is_logged, after}
 use Rattle.khepri.specs.Command.{put_bytes, IsPut}
-use Rattle.khepri.specs.State.{State, empty, log_limit, store_logs, store_after}
+use Rattle.khepri.specs.State.{State, empty, log_limit, log_has_room, store_logs, records_logged, store_after}
 use Rattle.khepri.specs.Recovery.{Recovery, Recovered, Replays, ends, applies, ReplaysUnless, Recovers}
 use Rattle.khepri.specs.Store.{Opened, state_of, Stands, OthersLeft, GainsRecords, Executing}
 use Rattle.khepri.proofs.Recovery.{replays_then}
@@ -156,6 +157,44 @@ logs_it path number sent store inside bytes at len is same packed room last long
       logs = logged;
       replays = applies (state_of store) bytes path number [] _ put logged (ends (store_after (form.Put path number) (state_of store)));
     }
+
+-- its record is the one that the log gains
+pub logs_one : (seen seen' : ℕ → Option (List ℕ)) (file last : ℕ) (bytes : List ℕ) (rs : List (List ℕ)) (path : List Name) (number : ℤ) (s : State) → file ≡ 1 → rs ≡ bytes ∷ []
+    → IsLogged path number s bytes → Told (seen file) (seen' file) (λ was now. EndsAt last (records_of was ++ rs) now)
+    → Told (seen 1) (seen' 1) (λ was now. records_of now ≡ records_of was ++ records_logged (form.Put path number) s)
+logs_one seen seen' file last bytes rs path number s one same logged appended =
+    let record_is : rs ≡ records_logged (form.Put path number) s =
+    same ∙ ap (λ (b : List ℕ). b ∷ []) logged.put.packed ∙ sym (ap (λ b. if b then put_bytes path number ∷ [] else []) logged.logs) in
+    told_map (seen 1) (seen' 1) (subst (λ f. Told (seen f) (seen' f) (λ was now. EndsAt last (records_of was ++ rs) now)) one appended)
+    (λ was now ends. ap (λ (k : Content). k.records) ends.content ∙ ap (λ (l : List (List ℕ)). records_of was ++ l) record_is)
+
+-- a log that gains no record
+pub logs_nothing : (o : Option (List ℕ)) (rs : List (List ℕ)) → rs ≡ [] → Told o o (λ was now. records_of now ≡ records_of was ++ rs)
+logs_nothing o rs none = told_same (λ was now. records_of now ≡ records_of was ++ rs) o (λ was.
+    sym (ap (λ (l : List (List ℕ)). records_of was ++ l) none ∙ append-nil (records_of was)))
+
+none_logged : (path : List Name) (number : ℤ) (s : State) → store_logs (form.Put path number) s ≡ false → records_logged (form.Put path number) s ≡ []
+none_logged path number s other = ap (λ b. if b then put_bytes path number ∷ [] else []) other
+
+-- a put that the log has no room for
+pub no_room : (path : List Name) (number sent : ℤ) (store inside : Opened) (bytes : List ℕ) (at len : ℕ) → sent ≡ number → inside ≡ store → IsPut bytes path sent
+    → nat_le (at + 6 + len) log_limit ≡ false → at ≡ inside.place.last → len ≡ length bytes → records_logged (form.Put path number) (state_of store) ≡ []
+no_room path number sent store inside bytes at len is same packed full last long =
+    let put : IsPut bytes path number = subst (λ (z : ℤ). IsPut bytes path z) is packed in
+    let there : at + 6 + len ≡ store.place.last + 6 + length (put_bytes path number) = omega (arith, last, ap (λ (s : Opened). s.place.last) same, long, ap length put.packed) in
+    none_logged path number (state_of store) (ap (λ a. a && is_logged (form.Put path number) store.nodes) (ap (λ n. nat_le n log_limit) (sym there) ∙ full))
+
+-- or the tree
+pub no_place : (path : List Name) (number sent : ℤ) (store inside : Opened) → sent ≡ number → inside ≡ store → is_logged (form.Put path sent) inside.nodes ≡ false
+    → records_logged (form.Put path number) (state_of store) ≡ []
+no_place path number sent store inside is same other =
+    let refused : is_logged (form.Put path number) store.nodes ≡ false =
+    ap (λ (z : ℤ). is_logged (form.Put path z) store.nodes) (sym is) ∙ ap (λ (s : Opened). is_logged (form.Put path sent) s.nodes) (sym same) ∙ other in
+    none_logged path number (state_of store) (ap (λ b. log_has_room (form.Put path number) store.place.last && b) refused ∙ and_false (log_has_room (form.Put path number) store.place.last))
+  where
+    and_false : (b : Bool) → (b && false) ≡ false
+    and_false true = refl
+    and_false false = refl
 
 -- and the store's state is the one after it
 pub logged_state : (path : List Name) (number sent : ℤ) (store inside : Opened) (bytes : List ℕ) (nodes : List Node) (log : Place) (more : List (List ℕ)) → sent ≡ number → inside ≡ store

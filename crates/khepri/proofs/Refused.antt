@@ -11,7 +11,7 @@ use Rattle.khepri.specs.State.{State, empty, store_logs, store_after}
 use Rattle.khepri.specs.Recovery.{Recovery, Damaged, Replays, ends, applies, refuses}
 use Rattle.khepri.proofs.Puts.{untrue}
 
--- It is one of these, which are applied from a state on.
+-- The record that is damage is one of these, which are applied from a state on.
 pub record IsAt (s : State) (rs : List (List ℕ)) (offset : ℕ) : Type 0 where
   pub number : ℕ
   pub bytes : List ℕ

@@ -17,13 +17,13 @@ pub record FailAtRecord (first : List Call) (rs : List (List ℕ)) (offset : ℕ
   pub place : offset ≡ span (take number rs) + 1
   pub fail : FailAmong (first ++ records_reads 1 rs (suc number)) calls
 
--- the same, of an opening whose log lacks bytes, or holds a record that the store wouldn't have logged
+-- by whether the log lacks bytes: then the calls of the opening alone, else the reads of records too
 abbrev pub FailUnless : Option ℕ → List ℕ → ℕ → List Call → Type 0
 FailUnless (Some lacking) log offset calls = FailAmong (opening_calls log) calls
 FailUnless None log offset calls = FailAtRecord (opening_calls log) (records_of log) offset calls
 
--- The last of these calls failed, and they are a front of those that meet the damage of a log at an offset: all files are synced, the gates
--- are read, and, unless the log lacks bytes, the records up to the one that is damage.
+-- The last of these calls failed, and they are a front of those that meet the damage of a log at an offset: all files are synced, the length
+-- of file 1 is asked for twice, the gates are read, and, unless the log lacks bytes, the records up to the one that is damage.
 abbrev pub FailBefore : List ℕ → ℕ → List Call → Type 0
 FailBefore log offset calls = FailUnless (lacking_in log) log offset calls
 

@@ -51,7 +51,7 @@ IsCutOff status = (status ≡ 3) ⊎ IsUnreported status
 abbrev pub AtEntry : (ℕ → List ℕ → Type 0) → ℕ → Files → ℕ → Type 0
 AtEntry image given files s = AreImages image files × (s ≡ given)
 
--- All commands before one that is logged were answered, and of its reply nothing was given. A crash leaves none of those behind it.
+-- All commands before one that is logged were answered, and of its reply nothing was given. A crash leaves no command behind it.
 pub record OneInDoubt (first : State) (entry : Files → ℕ → Type 0) (span : Span) (forms : List Form) (given : List ℕ) : Type 0 where
   pub answered : List Form
   pub form : Form

@@ -35,6 +35,11 @@ record_span (form.Get path) = 0
 abbrev pub store_logs : Form → State → Bool
 store_logs form s = log_has_room form s.span && is_logged form s.nodes
 
+-- the records that a command adds to the log: one of its bytes where it is logged
+abbrev pub records_logged : Form → State → List (List ℕ)
+records_logged (form.Put path number) s = if store_logs (form.Put path number) s then put_bytes path number ∷ [] else []
+records_logged (form.Get path) s = []
+
 -- the reply to a command
 abbrev pub store_reply : Form → State → TermTree
 store_reply form s = if log_has_room form s.span then reply_to form s.nodes else store_full

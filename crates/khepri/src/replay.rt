@@ -1,5 +1,5 @@
 //! The records of a log are applied, one after another.
-ghost use Rattle.std.specs.Prelude.{◌≡◌, ◌≤◌, ◌+◌, ℕ, nat_le, [], length, All, IfSome, IfOk, OnOk, Ok, Err, true, false};
+ghost use Rattle.std.specs.Prelude.{◌≡◌, ◌≢◌, ◌≤◌, ◌+◌, ℕ, nat_le, [], length, All, IfSome, IfOk, OnOk, Ok, Err, true, false};
 ghost use Rattle.kh_io.specs.Told.{Told, Kept, Extends, Rose};
 ghost use Rattle.kh_io.specs.Disk.{FilesStay, LeavesOnly};
 ghost use Rattle.kh_log.specs.Records.{records_of};
@@ -61,8 +61,7 @@ pub fn replay<H: Host>(alloc: Global, host: &mut H, log: &mut Log) -> Result<Tre
     ensures files { FilesStay (H.seen host.old) (H.seen host.new) (H.image host.old) (H.image host.new) }
     ensures any_moment { LeavesOnly (H.moment host.old) (H.moment host.new) (H.left_since host.old) (H.left_since host.new) (Reading (H.image host.old) (H.stamp host.old)) }
     ensures fault { result ≡ Err open_error.DiskFault → Rose (H.disk_faults host.old) (H.disk_faults host.new) }
-    ensures no_fault { OnOk result (H.disk_faults host.new ≡ H.disk_faults host.old) }
-    ensures no_fault_damaged { (file offset : ℕ) → result ≡ Err (open_error.Damaged file offset) → H.disk_faults host.new ≡ H.disk_faults host.old }
+    ensures no_fault { result ≢ Err open_error.DiskFault → H.disk_faults host.new ≡ H.disk_faults host.old }
     ensures faults_stand { H.disk_faults host.old ≤ H.disk_faults host.new }
     ensures stamp { H.stamp host.new ≡ H.stamp host.old }
     ensures input { Kept (H.left host.old) (H.left host.new) }
@@ -72,7 +71,7 @@ pub fn replay<H: Host>(alloc: Global, host: &mut H, log: &mut Log) -> Result<Tre
     ensures calls { OnOk result (Told (H.seen host.old 1) (H.seen host.new 1) (λ _ _. Extends (H.journal host.old) (H.journal host.new) (All ReadsLog))) }
     ensures calls_damaged { (file offset : ℕ) → result ≡ Err (open_error.Damaged file offset)
         → Told (H.seen host.old 1) (H.seen host.new 1) (λ _ _. Extends (H.journal host.old) (H.journal host.new) (All ReadsLog)) }
-    // Where the disk fails and a record is damage, the last call failed, and they are reads of the records in order, of none behind it.
+    // Where the disk fails and a record is damage, the calls are the first reads of the records in order, none behind the damaged one.
     ensures calls_at_fault { result ≡ Err open_error.DiskFault → Told (H.seen host.old 1) (H.seen host.new 1) (λ was _. (file offset : ℕ)
         → Replays empty (records_of was) (Damaged file offset) → Extends (H.journal host.old) (H.journal host.new) (FailAtRecord [] (records_of was) offset)) }
 {

@@ -51,7 +51,7 @@ pub fn run<H: Host>(alloc: Global, host: &mut H) -> Result<(), Stop>
     ensures disk { result ≡ Err Stop.DiskFault → Rose (H.disk_faults host.old) (H.disk_faults host.new) }
     ensures no_read_fault { result ≢ Err Stop.ReadFault → H.read_faults host.new ≡ H.read_faults host.old }
     ensures no_write_fault { result ≢ Err Stop.WriteFault → H.write_faults host.new ≡ H.write_faults host.old }
-    ensures no_disk_fault { result ≢ Err Stop.DiskFault → result ≢ Err Stop.NoMemory → H.disk_faults host.new ≡ H.disk_faults host.old }
+    ensures no_disk_fault { result ≢ Err Stop.DiskFault → H.disk_faults host.new ≡ H.disk_faults host.old }
 {
     let Ok(mut buffer) = vec![in alloc; 0u8; PIECE] else {
         return Err(Stop::NoMemory);

@@ -1,6 +1,6 @@
-use Rattle.std.proofs.Common.{◌≡◌, ◌⊎◌, ◌∙◌, ◌≤◌, ℕ, List, Option, ap, refl, inl, inr, Ok, Err, arith}
+use Rattle.std.proofs.Common.{◌≡◌, ◌⊎◌, ◌∙◌, ◌≤◌, ℕ, List, Option, ap, subst, refl, inl, inr, Ok, Err, arith}
 use Rattle.std.specs.Prelude.{Result, OnOk}
-use Rattle.kh_io.specs.Told.{Extends, IsFrontOf}
+use Rattle.kh_io.specs.Told.{Extends, IsFrontOf, Rose}
 use Rattle.kh_io.proofs.Telling.{told_map}
 use Rattle.khepri.specs.declared.session.Stop.{Stop}
 use Rattle.khepri.specs.declared.session.Stop.TheVariants as stop
@@ -128,10 +128,6 @@ pub returns-in-Err-Damaged-clause-no_write_fault : goal.returns-in-Err-Damaged-c
 returns-in-Err-Damaged-clause-no_write_fault g c other =
     c.report.ensures.no_fault (λ e. other (ap stopped e)) ∙ c.in-Err-Damaged.ensures.write_faults
 
-pub returns-in-Err-Damaged-clause-no_disk_fault : goal.returns-in-Err-Damaged-clause-no_disk_fault
-returns-in-Err-Damaged-clause-no_disk_fault g c other enough =
-    c.report.ensures.disk_faults ∙ c.in-Err-Damaged.ensures.no_fault_damaged c.in-Err-Damaged.file c.in-Err-Damaged.offset (refused c.in-Err-Damaged.field-0-is)
-
 pub returns-in-Err-DiskFault-clause-ran : goal.returns-in-Err-DiskFault-clause-ran
 returns-in-Err-DiskFault-clause-ran g c =
     let host = g.H.Disk in
@@ -213,3 +209,17 @@ returns-in-Err-Damaged-clause-log g c = λ no_fault enough.
 pub returns-in-Err-Damaged-clause-opening : goal.returns-in-Err-Damaged-clause-opening
 returns-in-Err-Damaged-clause-opening g c = λ no_fault enough.
     opened_then _ _ _ _ _ _ _ (c.in-Err-Damaged.ensures.calls_damaged c.in-Err-Damaged.file c.in-Err-Damaged.offset (refused c.in-Err-Damaged.field-0-is)) (c.report.ensures.files 1 (omega arith)).read c.report.ensures.grows
+
+-- a disk that failed ends the run
+pub returns-in-Ok-open-clause-disk : goal.returns-in-Ok-open-clause-disk
+returns-in-Ok-open-clause-disk g c = λ is.
+    let host = g.H.Disk in
+    subst (λ n. Rose n (host.disk_faults c.answer_script.new.host)) (c.in-Ok-open.ensures.no_fault (opened_whole c.in-Ok-open.store)) (c.answer_script.ensures.disk is)
+
+pub returns-in-Ok-open-clause-no_disk_fault : goal.returns-in-Ok-open-clause-no_disk_fault
+returns-in-Ok-open-clause-no_disk_fault g c = λ other.
+    c.answer_script.ensures.no_disk_fault other ∙ c.in-Ok-open.ensures.no_fault (opened_whole c.in-Ok-open.store)
+
+pub returns-in-Err-Damaged-clause-no_disk_fault : goal.returns-in-Err-Damaged-clause-no_disk_fault
+returns-in-Err-Damaged-clause-no_disk_fault g c = λ other.
+    c.report.ensures.disk_faults ∙ c.in-Err-Damaged.ensures.no_fault (damaged_whole c.in-Err-Damaged.field-0-is)

@@ -3,9 +3,9 @@ use Rattle.std.proofs.lemmas.Int.{to_z-of_z}
 use Rattle.kh_log.specs.Log.{ImagesAre}
 use Rattle.kh_log.specs.Records.{IsClosedAt}
 use Rattle.kh_read.specs.declared.form.Form.TheVariants as form
-use Rattle.khepri.specs.Store.{Opened}
+use Rattle.khepri.specs.Store.{Opened, state_of}
 use Rattle.khepri.proofs.LogAlone.{log_written}
-use Rattle.khepri.proofs.Executing.{stood, closed_left, writes, append_leaves, gains_one, stands_after, logs_it, logged_state}
+use Rattle.khepri.proofs.Executing.{stood, closed_left, writes, append_leaves, gains_one, stands_after, logs_it, logs_one, logs_nothing, no_room, no_place, logged_state}
 use Rattle.khepri.proofs.store.Store.execute_put.Goals as goal
 
 pub returns-in_err-bytes-clause-any_moment : goal.returns-in_err-bytes-clause-any_moment
@@ -100,3 +100,22 @@ pub returns-in-Ok-clause-log : goal.returns-in-Ok-clause-log
 returns-in-Ok-clause-log g c = λ no_fault.
     gains_one (g.H.Disk.seen c.args.host.now) (g.H.Disk.seen c.append.new.host) c.self.inside.log.file c.append.new.self.last c.in_ok-bytes.bytes.items _
     c.self.invariant.0 c.in_ok-record.ensures c.in-Ok.ensures.appended
+
+-- which is that of the put, or none
+pub returns-then-not-has_room-clause-logged : goal.returns-then-not-has_room-clause-logged
+returns-then-not-has_room-clause-logged g c =
+    logs_nothing (g.H.Disk.seen c.args.host.now 1) _ (no_room c.args.path c.args.number _ c.args.self.now _ c.in_ok-bytes.bytes.items c.end.result c.len.result (to_z-of_z _ _ c.ranges.number)
+    c.self.view_is (c.in_ok-bytes.ensures.put c.requires.command) (sym c.has_room.ensures ∙ c.if-not-has_room.true) c.end.ensures (omega (arith, c.len.ensures, c.in_ok-bytes.bytes.ok)))
+
+pub returns-then-not-applied-clause-logged : goal.returns-then-not-applied-clause-logged
+returns-then-not-applied-clause-logged g c =
+    logs_nothing (g.H.Disk.seen c.args.host.now 1) _ (no_place c.args.path c.args.number _ c.args.self.now _ (to_z-of_z _ _ c.ranges.number) c.self.view_is
+    (sym c.in_ok-applied.ensures.logged ∙ c.if-not-applied.true))
+
+pub returns-in-Ok-clause-logged : goal.returns-in-Ok-clause-logged
+returns-in-Ok-clause-logged g c =
+    let logged = logs_it c.args.path c.args.number _ c.args.self.now _ c.in_ok-bytes.bytes.items c.end.result c.len.result (to_z-of_z _ _ c.ranges.number) c.self.view_is
+    (c.in_ok-bytes.ensures.put c.requires.command) (sym c.has_room.ensures ∙ c.if-not-has_room.false) c.end.ensures (omega (arith, c.len.ensures, c.in_ok-bytes.bytes.ok))
+    (sym c.in_ok-applied.ensures.logged ∙ c.if-not-applied.false) in
+    logs_one (g.H.Disk.seen c.args.host.now) (g.H.Disk.seen c.append.new.host) c.self.inside.log.file c.append.new.self.last c.in_ok-bytes.bytes.items _ c.args.path c.args.number
+    (state_of c.args.self.now) c.self.invariant.0 c.in_ok-record.ensures logged c.in-Ok.ensures.appended
