@@ -1,6 +1,6 @@
 -- What a crash leaves in each step of an append.
-use Rattle.std.proofs.Common.{◌≡◌, ◌≢◌, inl, inr, ℕ, ◌+◌, ◌<◌, ◌≤◌, ◌^◌, List, [], ◌∷◌, ◌++◌, length, take, drop, refl, sym, ap, subst, ◌∙◌, arith, append_assoc, length-append, length-drop}
-use Rattle.std.proofs.lemmas.List.{append-nil, take_at, drop_at, drop-drop, take-append-drop}
+use Rattle.std.proofs.Common.{◌≡◌, ◌≢◌, inl, inr, ℕ, ◌+◌, ◌<◌, ◌≤◌, ◌^◌, List, [], ◌∷◌, ◌++◌, length, take, drop, refl, sym, ap, subst, ◌∙◌, arith, append_assoc, length-append, length-drop, length-take}
+use Rattle.std.proofs.lemmas.List.{append-nil, take_at, take-take, take-append-le, drop_at, drop-drop, take-append-drop}
 use Rattle.std.proofs.lemmas.Bool.{cases_eq}
 use Rattle.byteorder.specs.Numbers.{length-bytes_high_first}
 use Rattle.byteorder.specs.Endian.{big_bytes}
@@ -160,6 +160,20 @@ written_gate last rs qs body was bytes g s is =
     (is ∙ ap (λ (l : List ℕ). l ++ (open_gate ∷ []) ++ drop (last + 1) was) (ap (take last) s.is ∙ take_at s.front (s.gate ∷ (body ++ s.tail)) last s.place)
     ∙ ap (λ (l : List ℕ). s.front ++ (open_gate ∷ []) ++ l) (ap (drop (last + 1)) s.is ∙ drop_gate last s.front s.gate (body ++ s.tail) s.place)
     ∙ append_assoc s.front (open_gate ∷ []) (body ++ s.tail))
+
+-- where the bytes behind a gate are written first, and then the gate, they stand from its place on
+pub put_gate : (last gate : ℕ) (body was : List ℕ) → last < length was → put (put was (last + 1) body) last (gate ∷ []) ≡ put was last (gate ∷ body)
+put_gate last gate body was within =
+    let tail = drop (last + 1 + length body) was in
+    let front : length (take (last + 1) was) ≡ last + 1 = omega (arith, within, length-take (last + 1) was) in
+    let is : put was (last + 1) body ≡ take (last + 1) was ++ (body ++ tail) = append_assoc (take (last + 1) was) body tail in
+    let before : take last (put was (last + 1) body) ≡ take last was =
+    ap (take last) is ∙ take-append-le last (take (last + 1) was) (body ++ tail) (omega (arith, front)) ∙ take-take last (last + 1) was (omega arith) in
+    let behind : drop (last + 1) (put was (last + 1) body) ≡ body ++ tail = ap (drop (last + 1)) is ∙ drop_at (take (last + 1) was) (body ++ tail) (last + 1) front in
+    let further : last + 1 + length body ≡ last + length (gate ∷ body) = omega arith in
+    ap (λ (l : List ℕ). l ++ gate ∷ [] ++ drop (last + 1) (put was (last + 1) body)) before ∙ ap (λ (l : List ℕ). take last was ++ gate ∷ [] ++ l) behind
+    ∙ append_assoc (take last was) (gate ∷ []) (body ++ tail) ∙ ap (λ n. take last was ++ (gate ∷ (body ++ drop n was))) further
+    ∙ sym (append_assoc (take last was) (gate ∷ body) (drop (last + length (gate ∷ body)) was))
 
 -- one record behind an open gate
 pub one_logged : (body : List ℕ) → length body < 2 ^ 32 → content_of (log_of (body ∷ [])) ≡ whole (body ∷ [])

@@ -9,7 +9,7 @@ use Rattle.kh_log.specs.Records.{open_gate, Content, records_of, log_of, span, I
 use Rattle.kh_log.specs.Log.{Place, Holds, ImagesAre, moved, begun_at, EndsAt, IsBeforeOrAfter, IsGroup, Appending, Writing}
 use Rattle.std.proofs.lemmas.List.{take_all}
 use Rattle.kh_log.proofs.Records.{span-append, length-front}
-use Rattle.kh_log.proofs.Append.{ends_at, nothing_split, Staged, group_of, torn_behind, written_behind, torn_gate, written_gate}
+use Rattle.kh_log.proofs.Append.{ends_at, nothing_split, Staged, group_of, torn_behind, written_behind, torn_gate, written_gate, put_gate}
 
 pub longer : (at : ℕ) (bytes was : List ℕ) → at ≤ length was → length was ≤ length (put was at bytes)
 longer at bytes was le = omega (arith, le, length-append (take at was ++ bytes) (drop (at + length bytes) was), length-append (take at was) bytes, length-take at was, length-drop (at + length bytes) was)
@@ -49,6 +49,15 @@ pub both_written : (a b c : Option (List ℕ)) (last : ℕ) (body : List ℕ) �
     → Told a c (λ was now. (rs more : List (List ℕ)) → IsGroup more body → EndsAt last rs was → EndsAt (last + length body) (rs ++ more) now)
 both_written a b c last body first second = told_both a b c first second (λ x y z p q rs more group ends.
     written_gate last rs more body y z (group_of more body group.are group.log) (written_behind last rs body x y ends p) q)
+
+-- and so the gate and the bytes behind it stand in the file
+pub both_put : (a b c : Option (List ℕ)) (last gate : ℕ) (body : List ℕ) → IfSome a (λ was. last < length was) → Told a b (λ was now. now ≡ put was (last + 1) body)
+    → Told b c (λ was now. now ≡ put was last (gate ∷ [])) → Told a c (λ was now. now ≡ put was last (gate ∷ body))
+both_put (Some was) (Some staged) (Some now) last gate body within first second = second ∙ ap (λ (l : List ℕ). put l last (gate ∷ [])) first ∙ put_gate last gate body was within
+both_put None (Some staged) c last gate body within first second = absurd first
+both_put a None (Some now) last gate body within first second = absurd second
+both_put (Some was) b None last gate body within first second = tt
+both_put None None None last gate body within first second = tt
 
 -- what a crash during the first write leaves
 pub during_first : {image : ℕ → List ℕ → Type 0} (file given last n : ℕ) (rs more : List (List ℕ)) → ((was : List ℕ) → image file was → EndsAt last rs was)

@@ -1,7 +1,8 @@
 //! Writes that a crash doesn't undo once they are done.
-ghost use Rattle.std.specs.Prelude.{◌≡◌, ◌≤◌, ◌<◌, ◌+◌, ◌^◌, ◌++◌, ℕ, List, length, IfSome, OnOk, OnErr};
+ghost use Rattle.std.specs.Prelude.{◌≡◌, ◌≤◌, ◌<◌, ◌+◌, ◌^◌, ◌∷◌, ◌++◌, ℕ, List, length, IfSome, OnOk, OnErr};
 ghost use Rattle.kh_io.specs.Told.{Told, Kept, Rose};
 ghost use Rattle.kh_io.specs.Disk.{put, Torn, OthersStay, IsSafe, LeavesOnly};
+ghost use Rattle.kh_log.specs.Records.{open_gate};
 ghost use Rattle.kh_log.specs.Calls.{Grows};
 ghost use Rattle.kh_log.specs.Log.{Writing, Appending, EndsAt, IsGroup, IsBeforeOrAfter};
 
@@ -51,6 +52,7 @@ pub(crate) fn open_behind<D: Disk>(
     requires end { last + 1 + length bytes.now ≤ 2 ^ 62 }
     ensures appended { OnOk result (Told (D.seen disk.old file) (D.seen disk.new file) (λ was now.
         (rs more : List (List ℕ)) → IsGroup more bytes.now → EndsAt last rs was → EndsAt (last + length bytes.now) (rs ++ more) now)) }
+    ensures written { OnOk result (Told (D.seen disk.old file) (D.seen disk.new file) (λ was now. now ≡ put was last (open_gate ∷ bytes.now))) }
     ensures safe { OnOk result (IsSafe (D.seen disk.new file) (D.image disk.new file)) }
     ensures told { Told (D.seen disk.old file) (D.seen disk.new file) (λ _ _. Unit {0}) }
     ensures images { (rs more : List (List ℕ)) → IsGroup more bytes.now → ((was : List ℕ) → D.image disk.old file was → EndsAt last rs was)

@@ -1,6 +1,7 @@
 use Rattle.std.proofs.Common.{length}
 use Rattle.kh_io.proofs.Moments.{weakened, both}
-use Rattle.kh_log.proofs.Opening.{start_again, first_left, second_left, staged, both_written, during_first, during_second, on_ok}
+use Rattle.kh_log.specs.Records.{open_gate}
+use Rattle.kh_log.proofs.Opening.{start_again, first_left, second_left, staged, both_written, both_put, during_first, during_second, on_ok}
 use Rattle.kh_log.proofs.durable.open_behind.Goals as goal
 
 pub write_durably-requires-2-clause-start : goal.write_durably-requires-2-clause-start
@@ -19,6 +20,11 @@ pub returns-clause-appended : goal.returns-clause-appended
 returns-clause-appended g c =
     on_ok c.write_durably-2.result c.write_durably-2.ensures.written
     (both_written _ _ _ c.args.last c.args.bytes.now c.in_ok-write_durably.ensures.written)
+
+pub returns-clause-written : goal.returns-clause-written
+returns-clause-written g c =
+    on_ok c.write_durably-2.result c.write_durably-2.ensures.written
+    (both_put _ _ _ c.args.last open_gate c.args.bytes.now c.requires.start c.in_ok-write_durably.ensures.written)
 
 pub returns-clause-images : goal.returns-clause-images
 returns-clause-images g c = λ rs more group ends left there.

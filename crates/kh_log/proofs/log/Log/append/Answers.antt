@@ -1,6 +1,6 @@
 use Rattle.std.proofs.Common.{◌≡◌, ℕ, ◌+◌, ◌*◌, ◌<◌, ◌≤◌, ◌^◌, List, ◌++◌, length, sym, ap, subst, ◌∙◌, arith}
 use Rattle.std.specs.Prelude.{IfSome}
-use Rattle.kh_io.specs.Disk.{LeavesOnly}
+use Rattle.kh_io.specs.Disk.{put, LeavesOnly}
 use Rattle.kh_io.specs.Told.{Told}
 use Rattle.kh_log.specs.Records.{log_of, span, records_of}
 use Rattle.kh_log.specs.Log.{Place, IsGroup, Holds, EndsAt, Appending}
@@ -46,6 +46,13 @@ invariant_of-self g c =
     let last : c.self.inside.last ≡ c.args.self.now.last = ap (λ (p : Place). p.last) c.self.view_is in
     let room : c.args.self.now.last + length (log_of c.args.r.now) ≤ 2 ^ 62 = c.requires.room in
     (c.self.invariant.0, omega arith, omega (arith, long, count, least, most, len), omega arith, omega (arith, room, all, last, len))
+
+pub returns-clause-written : goal.returns-clause-written
+returns-clause-written g c =
+    let group = is_group c.args.r.now c.r.inside.bytes.items c.deref.result.now c.r.view_is c.r.invariant.0 c.deref.ensures.value in
+    let P : Place → Type 0 = λ p. Told (g.H.Disk.seen c.args.host.now p.file) (g.H.Disk.seen c.open_behind.new.disk p.file) (λ was now. now ≡ put was p.last (log_of c.args.r.now)) in
+    subst P c.self.view_is (subst (λ (b : List ℕ). Told (g.H.Disk.seen c.args.host.now c.self.inside.file) (g.H.Disk.seen c.open_behind.new.disk c.self.inside.file)
+    (λ was now. now ≡ put was c.self.inside.last b)) (sym group.log) c.in_ok-open_behind.ensures.written)
 
 pub returns-clause-left : goal.returns-clause-left
 returns-clause-left g c =
