@@ -11,19 +11,21 @@ use Rattle.kh_io.proofs.Telling.{told_same, told_map, told_both, kept_both, exte
 use Rattle.kh_log.specs.Records.{Content}
 use Rattle.kh_log.proofs.Records.{content_of-short}
 use Rattle.kh_read.specs.declared.form.Form.{Form}
-use Rattle.khepri.specs.State.{State, empty, text_of}
+use Rattle.khepri.specs.State.{State, empty, state_after, log_after, text_of}
 use Rattle.khepri.specs.Recovery.{Recovery, Recovered, Damaged, ends, ReplaysUnless, Recovers}
-use Rattle.khepri.specs.Store.{FilesTold, IsShort, Opening, ReadsAsBefore}
+use Rattle.khepri.specs.Store.{FilesTold, IsShort, Begun, InTurn, MaybeLogs, Opening, ReadsAsBefore}
 use Rattle.khepri.specs.Damage.{FailBefore, FailInside}
 use Rattle.khepri.specs.Opening.{OpenedBy}
+use Rattle.khepri.specs.Serving.{OneBehind}
 use Rattle.khepri.specs.Session.{Untouched, KeepsAnswered}
-use Rattle.khepri.specs.Run.{AtEntry, Never, Ran, Ends, damage_line, Runs, FindsDamage}
+use Rattle.khepri.specs.Run.{AtEntry, Answered, Never, AsOpened, Ran, Ends, damage_line, Runs, FindsDamage}
 use Rattle.khepri.proofs.Recovery.{recovery_one}
 use Rattle.khepri.proofs.Scripts.{script_exists}
 use Rattle.khepri.proofs.Stands.{some_of}
 use Rattle.khepri.proofs.Open.{told_back, of_told, files_there}
 use Rattle.khepri.proofs.Calls.{inside_later, opened_takes_nothing}
 use Rattle.khepri.proofs.LogAlone.{all_left}
+use Rattle.khepri.proofs.Lines.{none_behind}
 
 -- ---- files that are told
 
@@ -84,24 +86,46 @@ crash_opened first seen image files forms stamp m0 m1 m2 past mid since are reco
       | inr keeps ↦ inr keeps
     ])
 
+-- what becomes of a log that was begun
+begun_then : (P : List ℕ → List ℕ → Type 0) (a b c : Option (List ℕ)) → Told a b Begun → Told b c (InTurn AsOpened P) → Told a c (InTurn Begun P)
+begun_then P a b c begun then = told_both a b c begun then (λ x y z p q. (q.0, subst (Begun x) (sym q.1) p, q.2))
+
+as_it_was : (was between now : List ℕ) → Begun was between → (now ≡ between) ⊎ IsShort between → (now ≡ was) ⊎ IsShort was
+as_it_was was between now (inl found) (inl same) = inl (same ∙ found.1)
+as_it_was was between now (inl found) (inr short) = inr (subst IsShort found.1 short)
+as_it_was was between now (inr begun) left = inr begun.0
+
+-- what was answered
+answered_opened : (first : State) (l0 l1 l2 : Option (List ℕ)) (forms : List Form) (given : List ℕ) → Told l0 l1 Begun
+    → Answered first AsOpened l1 l2 forms given → Answered first Begun l0 l2 forms given
+answered_opened first l0 l1 l2 forms given begun answered = record {
+  text = answered.text;
+  log = begun_then (λ log now. now ≡ log_after forms first log) l0 l1 l2 begun answered.log;
+}
+
 -- the same run with the opening before it
 ran_opened : (first : State) (status : ℕ) (seen : ℕ → Option (List ℕ)) (image image' : ℕ → List ℕ → Type 0) (files : Files) (input rest given : List ℕ)
-    (stamp m0 m1 m2 : ℕ) (past mid since : ℕ → Files → ℕ → Type 0) → AreSeen seen files → Recovers files (Recovered first)
-    → LeavesOnly m0 m1 past mid (Opening seen image stamp)
-    → Ran first status Never (record { stamp = stamp; from = m1; to = m2; past = mid; since = since }) image' input rest given
-    → Ran first status (AtEntry image stamp) (record { stamp = stamp; from = m0; to = m2; past = past; since = since }) image' input rest given
-ran_opened first status seen image image' files input rest given stamp m0 m1 m2 past mid since are recovers opening ran = record {
+    (stamp m0 m1 m2 : ℕ) (past mid since : ℕ → Files → ℕ → Type 0) (l0 l1 l2 : Option (List ℕ)) → AreSeen seen files → Recovers files (Recovered first)
+    → LeavesOnly m0 m1 past mid (Opening seen image stamp) → Told l0 l1 Begun
+    → Ran first status Never AsOpened (record { stamp = stamp; from = m1; to = m2; past = mid; since = since; was = l1; now = l2 }) image' input rest given
+    → Ran first status (AtEntry image stamp) Begun (record { stamp = stamp; from = m0; to = m2; past = past; since = since; was = l0; now = l2 }) image' input rest given
+ran_opened first status seen image image' files input rest given stamp m0 m1 m2 past mid since l0 l1 l2 are recovers opening begun ran = record {
   forms = ran.forms;
   ending = ran.ending;
   script = ran.script;
   front = ran.front;
   how = ran.how;
-  done = ran.done;
-  syntax = ran.syntax;
-  too_long = ran.too_long;
-  read_fault = ran.read_fault;
+  done = λ is. let done = ran.done is in (answered_opened first l0 l1 l2 ran.forms given begun done.0, done.1);
+  syntax = λ is. answered_opened first l0 l1 l2 ran.forms given begun (ran.syntax is);
+  too_long = λ is. answered_opened first l0 l1 l2 ran.forms given begun (ran.too_long is);
+  read_fault = λ is. let fault = ran.read_fault is in (fault.0, fault.1, fault.2, fault.3, answered_opened first l0 l1 l2 fault.1 given begun fault.4);
+  write_fault = λ is. begun_then (OneBehind first ran.forms given) l0 l1 l2 begun (ran.write_fault is);
+  no_memory = λ is. elim (ran.no_memory is) [
+    | inl none ↦ inr (told_both l0 l1 l2 begun none.1 (λ x y z p same. (y, p, none_behind first [] ran.forms given none.0 y z same)))
+    | inr part ↦ inr (begun_then (OneBehind first ran.forms given) l0 l1 l2 begun part)
+  ];
   disk_fault = λ is. elim (ran.disk_fault is) [
-    | inl none ↦ inl none
+    | inl none ↦ inl (none.0, none.1, told_both l0 l1 l2 begun none.2 as_it_was)
     | inr doubt ↦ inr (record {
       answered = doubt.answered;
       form = doubt.form;
@@ -109,6 +133,7 @@ ran_opened first status seen image image' files input rest given stamp m0 m1 m2 
       are = doubt.are;
       text = doubt.text;
       logged = doubt.logged;
+      log = begun_then (λ log now. MaybeLogs doubt.form (state_after doubt.answered first) (log_after doubt.answered first log) now) l0 l1 l2 begun doubt.log;
       crash = crash_opened first seen image files (doubt.answered ++ doubt.form ∷ []) stamp m0 m1 m2 past mid since are recovers opening doubt.crash;
     })
   ];
@@ -117,35 +142,35 @@ ran_opened first status seen image image' files input rest given stamp m0 m1 m2 
 }
 
 ends_opened : (first : State) (status : ℕ) (seen : ℕ → Option (List ℕ)) (image image' : ℕ → List ℕ → Type 0) (files : Files)
-    (left0 left1 left2 sink0 sink1 sink2 : Option (List ℕ)) (stamp m0 m1 m2 : ℕ) (past mid since : ℕ → Files → ℕ → Type 0) → AreSeen seen files
-    → Recovers files (Recovered first) → LeavesOnly m0 m1 past mid (Opening seen image stamp) → Kept left0 left1 → Kept sink0 sink1
-    → Ends first status Never (record { stamp = stamp; from = m1; to = m2; past = mid; since = since }) image' left1 left2 sink1 sink2
-    → Ends first status (AtEntry image stamp) (record { stamp = stamp; from = m0; to = m2; past = past; since = since }) image' left0 left2 sink0 sink2
-ends_opened first status seen image image' files left0 left1 left2 sink0 sink1 sink2 stamp m0 m1 m2 past mid since are recovers opening input sink ran =
+    (left0 left1 left2 sink0 sink1 sink2 : Option (List ℕ)) (stamp m0 m1 m2 : ℕ) (past mid since : ℕ → Files → ℕ → Type 0) (l0 l1 l2 : Option (List ℕ)) → AreSeen seen files
+    → Recovers files (Recovered first) → LeavesOnly m0 m1 past mid (Opening seen image stamp) → Told l0 l1 Begun → Kept left0 left1 → Kept sink0 sink1
+    → Ends first status Never AsOpened (record { stamp = stamp; from = m1; to = m2; past = mid; since = since; was = l1; now = l2 }) image' left1 left2 sink1 sink2
+    → Ends first status (AtEntry image stamp) Begun (record { stamp = stamp; from = m0; to = m2; past = past; since = since; was = l0; now = l2 }) image' left0 left2 sink0 sink2
+ends_opened first status seen image image' files left0 left1 left2 sink0 sink1 sink2 stamp m0 m1 m2 past mid since l0 l1 l2 are recovers opening begun input sink ran =
     told_both left0 left1 left2 input ran (λ a b c same more. told_both sink0 sink1 sink2 sink more (λ x y z same' given. (
       given.0,
       given.1 ∙ ap (λ (t : List ℕ). t ++ given.0) same',
-      subst (λ (i : List ℕ). Ran first status (AtEntry image stamp) (record { stamp = stamp; from = m0; to = m2; past = past; since = since }) image' i c given.0) same
-          (ran_opened first status seen image image' files b c given.0 stamp m0 m1 m2 past mid since are recovers opening given.2),
+      subst (λ (i : List ℕ). Ran first status (AtEntry image stamp) Begun (record { stamp = stamp; from = m0; to = m2; past = past; since = since; was = l0; now = l2 }) image' i c given.0) same
+          (ran_opened first status seen image image' files b c given.0 stamp m0 m1 m2 past mid since l0 l1 l2 are recovers opening begun given.2),
     )))
 
 -- a run over files that recover to a state
 pub runs_opened : (first : State) (status : ℕ) (seen seen' seen2 : ℕ → Option (List ℕ)) (image image' : ℕ → List ℕ → Type 0)
     (left0 left1 left2 sink0 sink1 sink2 : Option (List ℕ)) (journal0 journal2 : Option (List Call)) (e0 e1 m0 m1 m2 : ℕ) (past mid since : ℕ → Files → ℕ → Type 0)
     → FilesTold seen seen' (λ files. Recovers files (Recovered first)) → (TellsFiles seen2 → TellsFiles seen') → e1 ≡ e0
-    → LeavesOnly m0 m1 past mid (Opening seen image e0) → Kept left0 left1 → Kept sink0 sink1
-    → Ends first status Never (record { stamp = e1; from = m1; to = m2; past = mid; since = since }) image' left1 left2 sink1 sink2
+    → LeavesOnly m0 m1 past mid (Opening seen image e0) → Told (seen 1) (seen' 1) Begun → Kept left0 left1 → Kept sink0 sink1
+    → Ends first status Never AsOpened (record { stamp = e1; from = m1; to = m2; past = mid; since = since; was = seen' 1; now = seen2 1 }) image' left1 left2 sink1 sink2
     → FilesTold seen seen2 (λ files. (found : Recovery) → Recovers files found
-    → Runs found status files (record { stamp = e0; from = m0; to = m2; past = past; since = since }) image image' seen seen2 left0 left2 sink0 sink2 journal0 journal2)
-runs_opened first status seen seen' seen2 image image' left0 left1 left2 sink0 sink1 sink2 journal0 journal2 e0 e1 m0 m1 m2 past mid since recovered told same opening input sink ran = record {
+    → Runs found status files (record { stamp = e0; from = m0; to = m2; past = past; since = since; was = seen 1; now = seen2 1 }) image image' seen seen2 left0 left2 sink0 sink2 journal0 journal2)
+runs_opened first status seen seen' seen2 image image' left0 left1 left2 sink0 sink1 sink2 journal0 journal2 e0 e1 m0 m1 m2 past mid since recovered told same opening begun input sink ran = record {
   told = λ tells.
       let at_entry = recovered.told (told tells) in (
         at_entry.0,
         at_entry.1,
-        λ found recovers. subst (λ (r : Recovery). Runs r status at_entry.0 (record { stamp = e0; from = m0; to = m2; past = past; since = since }) image image' seen seen2 left0 left2 sink0 sink2 journal0 journal2)
+        λ found recovers. subst (λ (r : Recovery). Runs r status at_entry.0 (record { stamp = e0; from = m0; to = m2; past = past; since = since; was = seen 1; now = seen2 1 }) image image' seen seen2 left0 left2 sink0 sink2 journal0 journal2)
             (recovery_one at_entry.0 (Recovered first) found at_entry.2 recovers)
-            (ends_opened first status seen image image' at_entry.0 left0 left1 left2 sink0 sink1 sink2 e0 m0 m1 m2 past mid since at_entry.1 at_entry.2 opening input sink
-            (subst (λ (e : ℕ). Ends first status Never (record { stamp = e; from = m1; to = m2; past = mid; since = since }) image' left1 left2 sink1 sink2) same ran)),
+            (ends_opened first status seen image image' at_entry.0 left0 left1 left2 sink0 sink1 sink2 e0 m0 m1 m2 past mid since (seen 1) (seen' 1) (seen2 1) at_entry.1 at_entry.2 opening begun input sink
+            (subst (λ (e : ℕ). Ends first status Never AsOpened (record { stamp = e; from = m1; to = m2; past = mid; since = since; was = seen' 1; now = seen2 1 }) image' left1 left2 sink1 sink2) same ran)),
       );
 }
 
@@ -180,7 +205,7 @@ pub runs_damaged : (file offset status : ℕ) (seen seen' seen2 : ℕ → Option
     → Extends sink1 sink2 (λ given. IsFrontOf given (damage_line file offset) × (status ≡ 1 → given ≡ damage_line file offset)) → (status ≡ 1) ⊎ ((status ≡ 4) ⊎ (status ≡ 6))
     → Told (seen 1) (seen' 1) (λ was _. Extends journal0 journal1 (OpenedBy was)) → (status ≡ 4 → Extends journal1 journal2 (FailInside (damage_line file offset)))
     → FilesTold seen seen2 (λ files. (found : Recovery) → Recovers files found
-    → Runs found status files (record { stamp = e0; from = m0; to = m2; past = past; since = since }) image image' seen seen2 left0 left2 sink0 sink2 journal0 journal2)
+    → Runs found status files (record { stamp = e0; from = m0; to = m2; past = past; since = since; was = seen 1; now = seen2 1 }) image image' seen seen2 left0 left2 sink0 sink2 journal0 journal2)
 runs_damaged file offset status seen seen' seen2 image image1 image' left0 left1 left2 sink0 sink1 sink2 journal0 journal1 journal2 e0 e1 e2 m0 m1 m2 past mid since
     damaged reads stay opening reporting now input input' sink line how opened failed = record {
       told = λ tells.
@@ -190,7 +215,7 @@ runs_damaged file offset status seen seen' seen2 image image1 image' left0 left1
           let were = damaged_left seen image e0 at_entry.0 file offset at_entry.1 at_entry.2 in (
             at_entry.0,
             at_entry.1,
-            λ found recovers. subst (λ (r : Recovery). Runs r status at_entry.0 (record { stamp = e0; from = m0; to = m2; past = past; since = since }) image image' seen seen2 left0 left2 sink0 sink2 journal0 journal2)
+            λ found recovers. subst (λ (r : Recovery). Runs r status at_entry.0 (record { stamp = e0; from = m0; to = m2; past = past; since = since; was = seen 1; now = seen2 1 }) image image' seen seen2 left0 left2 sink0 sink2 journal0 journal2)
                 (recovery_one at_entry.0 (Damaged file offset) found at_entry.2 recovers)
                 (record {
                   line = told_both sink0 sink1 sink2 sink line (λ x y z same given. (given.0, given.1 ∙ ap (λ (t : List ℕ). t ++ given.0) same, given.2));
@@ -219,10 +244,11 @@ finds_damage file offset seen seen' seen2 image1 image' damaged stay = record {
 
 -- a run that gave nothing
 ran_nothing : (first : State) (status : ℕ) (seen : ℕ → Option (List ℕ)) (image image' : ℕ → List ℕ → Type 0) (files : Files) (input : List ℕ)
-    (stamp m0 m1 : ℕ) (past since : ℕ → Files → ℕ → Type 0) → AreSeen seen files → Recovers files (Recovered first)
+    (stamp m0 m1 : ℕ) (past since : ℕ → Files → ℕ → Type 0) (l0 l1 : Option (List ℕ)) → AreSeen seen files → Recovers files (Recovered first)
     → LeavesOnly m0 m1 past since (Opening seen image stamp) → (status ≡ 5) ⊎ (status ≡ 6)
-    → Ran first status (AtEntry image stamp) (record { stamp = stamp; from = m0; to = m1; past = past; since = since }) image' input input []
-ran_nothing first status seen image image' files input stamp m0 m1 past since are recovers opening why =
+    → Told l0 l1 (λ was now. (now ≡ was) ⊎ IsShort was) → (status ≡ 6 → Kept l0 l1 ⊎ Told l0 l1 Begun)
+    → Ran first status (AtEntry image stamp) Begun (record { stamp = stamp; from = m0; to = m1; past = past; since = since; was = l0; now = l1 }) image' input input []
+ran_nothing first status seen image image' files input stamp m0 m1 past since l0 l1 are recovers opening why reads out =
     let script = script_exists _ _ in
     record {
       forms = script.0;
@@ -234,7 +260,12 @@ ran_nothing first status seen image image' files input stamp m0 m1 past since ar
       syntax = λ e. absurd (elim why [ inl f ↦ omega arith | inr f ↦ omega arith ]);
       too_long = λ e. absurd (elim why [ inl f ↦ omega arith | inr f ↦ omega arith ]);
       read_fault = λ e. absurd (elim why [ inl f ↦ omega arith | inr f ↦ omega arith ]);
-      disk_fault = λ e. inl (refl, refl);
+      write_fault = λ e. absurd (elim why [ inl f ↦ omega arith | inr f ↦ omega arith ]);
+      disk_fault = λ e. inl (refl, refl, reads);
+      no_memory = λ e. elim (out e) [
+        | inl kept ↦ inl (refl, kept)
+        | inr begun ↦ inr (told_map l0 l1 begun (λ was now is. (now, is, none_behind first [] script.0 [] refl now now refl)))
+      ];
       crash = weakened opening (opening_keeps seen image stamp files first script.0 are recovers);
       last = λ e. absurd (elim why [ inl f ↦ omega arith | inr f ↦ omega arith ]);
     }
@@ -246,16 +277,17 @@ FailsOver journal journal' files = (file offset : ℕ) → Recovers files (Damag
 runs_nothing : (found : Recovery) (status : ℕ) (seen seen' : ℕ → Option (List ℕ)) (image image' : ℕ → List ℕ → Type 0) (files : Files)
     (left0 left1 sink0 sink1 : Option (List ℕ)) (journal0 journal1 : Option (List Call)) (stamp m0 m1 : ℕ) (past since : ℕ → Files → ℕ → Type 0) → AreSeen seen files → Recovers files found
     → ReadsAsBefore seen seen' → LeavesOnly m0 m1 past since (Opening seen image stamp) → Kept left0 left1 → Kept sink0 sink1 → (status ≡ 5) ⊎ (status ≡ 6)
-    → (status ≡ 5 → FailsOver journal0 journal1 files)
-    → Runs found status files (record { stamp = stamp; from = m0; to = m1; past = past; since = since }) image image' seen seen' left0 left1 sink0 sink1 journal0 journal1
-runs_nothing (Recovered first) status seen seen' image image' files left0 left1 sink0 sink1 journal0 journal1 stamp m0 m1 past since are recovers reads opening input sink why fails =
+    → (status ≡ 5 → FailsOver journal0 journal1 files) → (status ≡ 6 → Kept (seen 1) (seen' 1) ⊎ Told (seen 1) (seen' 1) Begun)
+    → Runs found status files (record { stamp = stamp; from = m0; to = m1; past = past; since = since; was = seen 1; now = seen' 1 }) image image' seen seen' left0 left1 sink0 sink1 journal0 journal1
+runs_nothing (Recovered first) status seen seen' image image' files left0 left1 sink0 sink1 journal0 journal1 stamp m0 m1 past since are recovers reads opening input sink why fails out =
     told_map left0 left1 input (λ a b same. told_map sink0 sink1 sink (λ x y same'. (
       [],
       same' ∙ sym (append-nil x),
-      subst (λ (r : List ℕ). Ran first status (AtEntry image stamp) (record { stamp = stamp; from = m0; to = m1; past = past; since = since }) image' a r []) (sym same)
-          (ran_nothing first status seen image image' files a stamp m0 m1 past since are recovers opening why),
+      subst (λ (r : List ℕ). Ran first status (AtEntry image stamp) Begun (record { stamp = stamp; from = m0; to = m1; past = past; since = since; was = seen 1; now = seen' 1 }) image' a r []) (sym same)
+          (ran_nothing first status seen image image' files a stamp m0 m1 past since (seen 1) (seen' 1) are recovers opening why
+          (told_map (seen 1) (seen' 1) (reads 1 (omega arith)) (λ was now is. elim is [ inl stays ↦ inl stays | inr short ↦ inr short.1 ])) out),
     )))
-runs_nothing (Damaged file offset) status seen seen' image image' files left0 left1 sink0 sink1 journal0 journal1 stamp m0 m1 past since are recovers reads opening input sink why fails = record {
+runs_nothing (Damaged file offset) status seen seen' image image' files left0 left1 sink0 sink1 journal0 journal1 stamp m0 m1 past since are recovers reads opening input sink why fails out = record {
   line = told_map sink0 sink1 sink (λ x y same'. (
     [],
     same' ∙ sym (append-nil x),
@@ -273,13 +305,13 @@ runs_nothing (Damaged file offset) status seen seen' image image' files left0 le
 runs_unopened : (status : ℕ) (seen seen' : ℕ → Option (List ℕ)) (image image' : ℕ → List ℕ → Type 0)
     (left0 left1 sink0 sink1 : Option (List ℕ)) (journal0 journal1 : Option (List Call)) (stamp m0 m1 : ℕ) (past since : ℕ → Files → ℕ → Type 0)
     → ReadsAsBefore seen seen' → LeavesOnly m0 m1 past since (Opening seen image stamp) → Kept left0 left1 → Kept sink0 sink1 → (status ≡ 5) ⊎ (status ≡ 6)
-    → FilesTold seen seen' (λ files. status ≡ 5 → FailsOver journal0 journal1 files)
+    → FilesTold seen seen' (λ files. status ≡ 5 → FailsOver journal0 journal1 files) → (status ≡ 6 → Kept (seen 1) (seen' 1) ⊎ Told (seen 1) (seen' 1) Begun)
     → FilesTold seen seen' (λ files. (found : Recovery) → Recovers files found
-    → Runs found status files (record { stamp = stamp; from = m0; to = m1; past = past; since = since }) image image' seen seen' left0 left1 sink0 sink1 journal0 journal1)
-runs_unopened status seen seen' image image' left0 left1 sink0 sink1 journal0 journal1 stamp m0 m1 past since reads opening input sink why fails = record {
+    → Runs found status files (record { stamp = stamp; from = m0; to = m1; past = past; since = since; was = seen 1; now = seen' 1 }) image image' seen seen' left0 left1 sink0 sink1 journal0 journal1)
+runs_unopened status seen seen' image image' left0 left1 sink0 sink1 journal0 journal1 stamp m0 m1 past since reads opening input sink why fails out = record {
   told = λ tells.
       let files = fails.told tells in
-      (files.0, files.1, λ found recovers. runs_nothing found status seen seen' image image' files.0 left0 left1 sink0 sink1 journal0 journal1 stamp m0 m1 past since files.1 recovers reads opening input sink why files.2);
+      (files.0, files.1, λ found recovers. runs_nothing found status seen seen' image image' files.0 left0 left1 sink0 sink1 journal0 journal1 stamp m0 m1 past since files.1 recovers reads opening input sink why files.2 out);
 }
 
 -- the disk failed while the store was opened
@@ -288,20 +320,21 @@ pub runs_faulted : (seen seen' : ℕ → Option (List ℕ)) (image image' : ℕ 
     → ReadsAsBefore seen seen' → LeavesOnly m0 m1 past since (Opening seen image stamp) → Kept left0 left1 → Kept sink0 sink1
     → FilesTold seen seen' (FailsOver journal0 journal1)
     → FilesTold seen seen' (λ files. (found : Recovery) → Recovers files found
-    → Runs found 5 files (record { stamp = stamp; from = m0; to = m1; past = past; since = since }) image image' seen seen' left0 left1 sink0 sink1 journal0 journal1)
+    → Runs found 5 files (record { stamp = stamp; from = m0; to = m1; past = past; since = since; was = seen 1; now = seen' 1 }) image image' seen seen' left0 left1 sink0 sink1 journal0 journal1)
 runs_faulted seen seen' image image' left0 left1 sink0 sink1 journal0 journal1 stamp m0 m1 past since reads opening input sink fails =
     runs_unopened 5 seen seen' image image' left0 left1 sink0 sink1 journal0 journal1 stamp m0 m1 past since reads opening input sink (inl refl)
-    (record { told = λ tells. let files = fails.told tells in (files.0, files.1, λ e. files.2) })
+    (record { told = λ tells. let files = fails.told tells in (files.0, files.1, λ e. files.2) }) (λ e. absurd (omega (arith, e)))
 
 -- or memory ran out
 pub runs_out : (seen seen' : ℕ → Option (List ℕ)) (image image' : ℕ → List ℕ → Type 0)
     (left0 left1 sink0 sink1 : Option (List ℕ)) (journal0 journal1 : Option (List Call)) (stamp m0 m1 : ℕ) (past since : ℕ → Files → ℕ → Type 0)
     → ReadsAsBefore seen seen' → LeavesOnly m0 m1 past since (Opening seen image stamp) → Kept left0 left1 → Kept sink0 sink1
+    → Kept (seen 1) (seen' 1) ⊎ Told (seen 1) (seen' 1) Begun
     → FilesTold seen seen' (λ files. (found : Recovery) → Recovers files found
-    → Runs found 6 files (record { stamp = stamp; from = m0; to = m1; past = past; since = since }) image image' seen seen' left0 left1 sink0 sink1 journal0 journal1)
-runs_out seen seen' image image' left0 left1 sink0 sink1 journal0 journal1 stamp m0 m1 past since reads opening input sink =
+    → Runs found 6 files (record { stamp = stamp; from = m0; to = m1; past = past; since = since; was = seen 1; now = seen' 1 }) image image' seen seen' left0 left1 sink0 sink1 journal0 journal1)
+runs_out seen seen' image image' left0 left1 sink0 sink1 journal0 journal1 stamp m0 m1 past since reads opening input sink log =
     runs_unopened 6 seen seen' image image' left0 left1 sink0 sink1 journal0 journal1 stamp m0 m1 past since reads opening input sink (inr refl)
-    (record { told = λ tells. let files = files_there seen (reads_tell seen seen' reads tells) in (files.0, files.1, λ e. absurd (omega (arith, e))) })
+    (record { told = λ tells. let files = files_there seen (reads_tell seen seen' reads tells) in (files.0, files.1, λ e. absurd (omega (arith, e))) }) (λ e. log)
 
 reads_same : (seen : ℕ → Option (List ℕ)) → ReadsAsBefore seen seen
 reads_same seen file lt = told_same _ (seen file) (λ bytes. inl refl)
@@ -310,8 +343,8 @@ reads_same seen file lt = told_same _ (seen file) (λ bytes. inl refl)
 pub runs_untouched : (seen : ℕ → Option (List ℕ)) (image : ℕ → List ℕ → Type 0) (left sink : Option (List ℕ)) (journal : Option (List Call)) (stamp moment : ℕ) (since : ℕ → Files → ℕ → Type 0)
     → ((files : Files) (s : ℕ) → since moment files s → AreImages image files × (s ≡ stamp))
     → FilesTold seen seen (λ files. (found : Recovery) → Recovers files found
-    → Runs found 6 files (record { stamp = stamp; from = moment; to = moment; past = since; since = since }) image image seen seen left left sink sink journal journal)
+    → Runs found 6 files (record { stamp = stamp; from = moment; to = moment; past = since; since = since; was = seen 1; now = seen 1 }) image image seen seen left left sink sink journal journal)
 runs_untouched seen image left sink journal stamp moment since now =
     runs_out seen seen image image left left sink sink journal journal stamp moment moment since since (reads_same seen)
     (started moment since (λ files s there. let is = now files s there in record { stamp = is.1; log = inl (is.0 1 (omega arith)); others = λ file lt other. is.0 file lt }))
-    (told_same _ left (λ bytes. refl)) (told_same _ sink (λ bytes. refl))
+    (told_same _ left (λ bytes. refl)) (told_same _ sink (λ bytes. refl)) (inl (told_same _ (seen 1) (λ bytes. refl)))

@@ -11,7 +11,7 @@ use Rattle.kh_io.proofs.Staying.{files_same}
 use Rattle.kh_log.specs.Records.{records_of}
 use Rattle.kh_log.specs.Log.{Reading}
 use Rattle.khepri.specs.Opening.{Beginning}
-use Rattle.khepri.specs.Store.{Begun, GainsRecords, KeepsRecords, OthersLeft, ReadsAsBefore, WritesLogAlone}
+use Rattle.khepri.specs.Store.{Begun, InTurn, GainsRecords, OthersLeft, ReadsAsBefore, WritesLogAlone}
 use Rattle.khepri.specs.Session.{Untouched}
 use Rattle.khepri.proofs.Open.{told_back}
 
@@ -142,7 +142,7 @@ pub gains_then : (a b c : Option (List ℕ)) → Told a b GainsRecords → Told 
 gains_then a b c first second = told_both a b c first second gains_both
 
 -- a log that was begun
-pub keeps_then : (a b c : Option (List ℕ)) → Told a b Begun → Told b c GainsRecords → Told a c KeepsRecords
+pub keeps_then : (a b c : Option (List ℕ)) → Told a b Begun → Told b c GainsRecords → Told a c (InTurn Begun GainsRecords)
 keeps_then a b c begun gains = told_both a b c begun gains (λ x y z p q. (y, p, q))
 
 -- a piece was taken and served

@@ -1,12 +1,14 @@
 -- Commands, their replies and the state after them, in parts; and what a crash leaves of them.
-use Rattle.std.proofs.Common.{◌≡◌, ℕ, zero, suc, ◌+◌, ◌≤◌, List, [], ◌∷◌, ◌++◌, length, take, refl, sym, ap, subst, ◌∙◌, append_assoc, length-append, inl, inr, arith}
+use Rattle.std.proofs.Common.{◌≡◌, ℕ, zero, suc, ◌+◌, ◌≤◌, List, [], ◌∷◌, ◌++◌, length, take, Option, refl, sym, ap, subst, ◌∙◌, append_assoc, length-append, inl, inr, arith}
 use Rattle.std.proofs.lemmas.Bool.{cases_lt}
 use Rattle.std.proofs.lemmas.List.{take-append-le, take_all}
 use Rattle.std.proofs.Math.Seq.{take-append-add}
 use Rattle.kh_io.specs.declared.files.Files.{Files}
+use Rattle.kh_io.specs.Told.{Told}
+use Rattle.kh_io.proofs.Telling.{told_both}
 use Rattle.kh_text_defs.specs.Shown.{shown_line}
 use Rattle.kh_read.specs.declared.form.Form.{Form}
-use Rattle.khepri.specs.State.{State, store_reply, store_after, state_after, text_of}
+use Rattle.khepri.specs.State.{State, store_reply, store_after, log_with, state_after, log_after, text_of}
 use Rattle.khepri.specs.Recovery.{Recovered, Recovers}
 use Rattle.khepri.specs.Session.{Answering, HasPrefix, KeepsAnswered}
 
@@ -19,6 +21,20 @@ text_of-append [] others s = refl
 text_of-append (form ∷ forms) others s =
     ap (λ (t : List ℕ). shown_line (store_reply form s) ++ t) (text_of-append forms others (store_after form s))
     ∙ sym (append_assoc (shown_line (store_reply form s)) (text_of forms (store_after form s)) (text_of others (state_after forms (store_after form s))))
+
+log_after-append : (forms others : List Form) (s : State) (log : List ℕ) → log_after (forms ++ others) s log ≡ log_after others (state_after forms s) (log_after forms s log)
+log_after-append [] others s log = refl
+log_after-append (form ∷ forms) others s log = log_after-append forms others (store_after form s) (log_with form s log)
+
+pub log_behind : (first mid : State) (forms others : List Form) (was between : List ℕ) → mid ≡ state_after forms first → between ≡ log_after forms first was
+    → log_after others mid between ≡ log_after (forms ++ others) first was
+log_behind first mid forms others was between is log =
+    ap (λ (t : State). log_after others t between) is ∙ ap (log_after others (state_after forms first)) log ∙ sym (log_after-append forms others first was)
+
+-- the log after more commands
+pub logs_both : (a b c : Option (List ℕ)) (first mid : State) (forms others : List Form) → mid ≡ state_after forms first → Told a b (λ was now. now ≡ log_after forms first was)
+    → Told b c (λ was now. now ≡ log_after others mid was) → Told a c (λ was now. now ≡ log_after (forms ++ others) first was)
+logs_both a b c first mid forms others is before behind = told_both a b c before behind (λ x y z p q. q ∙ log_behind first mid forms others x y is p)
 
 -- the text of more commands is no shorter
 text_grows : (k j : ℕ) (forms : List Form) (s : State) → k ≤ j → length (text_of (take k forms) s) ≤ length (text_of (take j forms) s)

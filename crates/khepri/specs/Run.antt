@@ -11,12 +11,13 @@ use Rattle.kh_read.specs.declared.form.Form.{Form}
 use Rattle.khepri.specs.declared.session.Stop.{Stop}
 use Rattle.khepri.specs.declared.session.Stop.TheVariants as stop
 use Rattle.khepri.specs.Machine.{word}
-use Rattle.khepri.specs.State.{State, store_logs, state_after, text_of}
+use Rattle.khepri.specs.State.{State, store_logs, state_after, log_after, text_of}
+use Rattle.khepri.specs.Store.{IsShort, Begun, InTurn, MaybeLogs}
 use Rattle.khepri.specs.Recovery.{Recovery, Recovered, Damaged, Recovers}
 use Rattle.khepri.specs.Damage.{FailBefore, FailInside}
 use Rattle.khepri.specs.Script.{Ending, AtEnd, AtFault, Unfinished, WholeScript, FrontScript}
 use Rattle.khepri.specs.Session.{KeepsAnswered}
-use Rattle.khepri.specs.Serving.{Span}
+use Rattle.khepri.specs.Serving.{Span, OneBehind}
 
 -- the status of a run that ended early
 abbrev pub stop_status : Stop → ℕ
@@ -51,23 +52,39 @@ IsCutOff status = (status ≡ 3) ⊎ IsUnreported status
 abbrev pub AtEntry : (ℕ → List ℕ → Type 0) → ℕ → Files → ℕ → Type 0
 AtEntry image given files s = AreImages image files × (s ≡ given)
 
--- All commands before one that is logged were answered, and of its reply nothing was given. A crash leaves no command behind it.
-pub record OneInDoubt (first : State) (entry : Files → ℕ → Type 0) (span : Span) (forms : List Form) (given : List ℕ) : Type 0 where
+-- All of these commands were answered, and no others: the bytes given are the replies to them, and the log, once it was begun, gained their
+-- records, and is else as it was.
+pub record Answered (first : State) (begun : List ℕ → List ℕ → Type 0) (was now : Option (List ℕ)) (forms : List Form) (given : List ℕ) : Type 0 where
+  pub text : given ≡ text_of forms first
+  pub log : Told was now (InTurn begun (λ log now. now ≡ log_after forms first log))
+
+-- Of these commands a front was answered, and at most one more was executed.
+abbrev pub PartAnswered : (first : State) (begun : List ℕ → List ℕ → Type 0) (was now : Option (List ℕ)) (forms : List Form) (given : List ℕ) → Type 0
+PartAnswered first begun was now forms given = Told was now (InTurn begun (OneBehind first forms given))
+
+-- All commands before one that is logged were answered, and of its reply nothing was given. Its record may be in the log, and a crash leaves
+-- no command behind it.
+pub record OneInDoubt (first : State) (entry : Files → ℕ → Type 0) (begun : List ℕ → List ℕ → Type 0) (span : Span) (forms : List Form) (given : List ℕ) : Type 0 where
   pub answered : List Form
   pub form : Form
   pub behind : List Form
   pub are : forms ≡ answered ++ form ∷ behind
   pub text : given ≡ text_of answered first
   pub logged : IsTrue (store_logs form (state_after answered first))
+  pub log : Told span.was span.now (InTurn begun (λ log now. MaybeLogs form (state_after answered first) (log_after answered first log) now))
   pub crash : LeavesOnly span.from span.to span.past span.since (λ files s. entry files s ⊎ KeepsAnswered first (answered ++ form ∷ []) span.stamp files s)
 
 -- nothing
 abbrev pub Never : Files → ℕ → Type 0
 Never files s = ⊥
 
+-- the log was begun before
+abbrev pub AsOpened : (was log : List ℕ) → Type 0
+AsOpened was log = log ≡ was
+
 -- A run from a state on over this input, of which this rest wasn't taken, gave these bytes: a front of the replies to the
--- commands of the input. One list of commands serves the text and what a crash leaves.
-pub record Ran (first : State) (status : ℕ) (entry : Files → ℕ → Type 0) (span : Span) (image : ℕ → List ℕ → Type 0) (input rest given : List ℕ) : Type 0 where
+-- commands of the input. One list of commands serves the text, the log and what a crash leaves.
+pub record Ran (first : State) (status : ℕ) (entry : Files → ℕ → Type 0) (begun : List ℕ → List ℕ → Type 0) (span : Span) (image : ℕ → List ℕ → Type 0) (input rest given : List ℕ) : Type 0 where
   pub forms : List Form
   pub ending : Ending
   pub script : WholeScript input forms ending
@@ -75,24 +92,29 @@ pub record Ran (first : State) (status : ℕ) (entry : Files → ℕ → Type 0)
   -- the status says how the script ends, or why the run was cut off
   pub how : (status ≡ ending_status ending) ⊎ IsCutOff status
   -- 0: all was read and answered
-  pub done : status ≡ 0 → (given ≡ text_of forms first) × (rest ≡ [])
+  pub done : status ≡ 0 → Answered first begun span.was span.now forms given × (rest ≡ [])
   -- 2 and 9: what is before the fault, and before the limit, was answered
-  pub syntax : status ≡ 2 → given ≡ text_of forms first
-  pub too_long : status ≡ 9 → given ≡ text_of forms first
+  pub syntax : status ≡ 2 → Answered first begun span.was span.now forms given
+  pub too_long : status ≡ 9 → Answered first begun span.was span.now forms given
   -- 3: the lines that had come whole were answered
   pub read_fault : status ≡ 3 → (taken : List ℕ) × (come : List Form) × (input ≡ taken ++ rest) × FrontScript taken come Unfinished
-      × (given ≡ text_of come first)
-  -- 5: nothing was taken nor given; or one command that is logged is in doubt, and those before it were answered
-  pub disk_fault : status ≡ 5 → ((rest ≡ input) × (given ≡ [])) ⊎ OneInDoubt first entry span forms given
+      × Answered first begun span.was span.now come given
+  -- 4: some commands were answered, and at most one more was executed
+  pub write_fault : status ≡ 4 → PartAnswered first begun span.was span.now forms given
+  -- 5: nothing was taken nor given, and the log is as it was, if there was one; or one command that is logged is in doubt, and those before
+  -- it were answered
+  pub disk_fault : status ≡ 5 → ((rest ≡ input) × (given ≡ []) × Told span.was span.now (λ was now. (now ≡ was) ⊎ IsShort was)) ⊎ OneInDoubt first entry begun span forms given
+  -- 6: as at 4, or nothing was given and the log is as it was
+  pub no_memory : status ≡ 6 → ((given ≡ []) × Kept span.was span.now) ⊎ PartAnswered first begun span.was span.now forms given
   -- a crash at any moment of the run: before the opening has done anything, or with every command that was answered
   pub crash : LeavesOnly span.from span.to span.past span.since (λ files s. entry files s ⊎ KeepsAnswered first forms span.stamp files s)
   -- 0: a crash from then on leaves the state after all commands
   pub last : status ≡ 0 → (files : Files) → AreImages image files → Recovers files (Recovered (state_after forms first))
 
 -- what a run gives, where the host tells its input and what the sink has taken
-abbrev pub Ends : State → ℕ → (Files → ℕ → Type 0) → Span → (ℕ → List ℕ → Type 0) → (left left_after sink sink_after : Option (List ℕ)) → Type 0
-Ends first status entry span image left left_after sink sink_after =
-    Told left left_after (λ input rest. Extends sink sink_after (Ran first status entry span image input rest))
+abbrev pub Ends : State → ℕ → (Files → ℕ → Type 0) → (List ℕ → List ℕ → Type 0) → Span → (ℕ → List ℕ → Type 0) → (left left_after sink sink_after : Option (List ℕ)) → Type 0
+Ends first status entry begun span image left left_after sink sink_after =
+    Told left left_after (λ input rest. Extends sink sink_after (Ran first status entry begun span image input rest))
 
 -- `{damaged,File,Offset}`
 abbrev pub damage_tree : ℕ → ℕ → TermTree
@@ -119,7 +141,7 @@ pub record Reports (file offset status : ℕ) (files : Files) (span : Span) (ima
 -- what a run does by what the files at entry recover to
 abbrev pub Runs : Recovery → ℕ → Files → Span → (image image' : ℕ → List ℕ → Type 0) → (seen seen' : ℕ → Option (List ℕ)) → (left left_after sink sink_after : Option (List ℕ)) → (journal journal_after : Option (List Call)) → Type 0
 Runs (Recovered first) status files span image image' seen seen' left left_after sink sink_after journal journal_after =
-    Ends first status (AtEntry image span.stamp) span image' left left_after sink sink_after
+    Ends first status (AtEntry image span.stamp) Begun span image' left left_after sink sink_after
 Runs (Damaged file offset) status files span image image' seen seen' left left_after sink sink_after journal journal_after =
     Reports file offset status files span image seen seen' left left_after sink sink_after journal journal_after
 

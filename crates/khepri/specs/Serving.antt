@@ -1,12 +1,13 @@
 -- What answering the forms of a script does.
 use Rattle.std.specs.Prelude.{◌≡◌, ℕ, ◌≤◌, Bool, List, [], ◌∷◌, ◌++◌, length, drop, Option, IsTrue}
 use Rattle.kh_io.specs.declared.files.Files.{Files}
-use Rattle.kh_io.specs.Told.{Extends, IsFrontOf}
+use Rattle.kh_io.specs.Told.{Told, Extends, IsFrontOf}
 use Rattle.kh_io.specs.Disk.{LeavesOnly}
 use Rattle.kh_read.specs.declared.form.Form.{Form}
 use Rattle.khepri.specs.declared.session.Stop.{Stop}
 use Rattle.khepri.specs.declared.session.Stop.TheVariants as stop
-use Rattle.khepri.specs.State.{State, store_logs, state_after, text_of}
+use Rattle.khepri.specs.State.{State, store_logs, state_after, log_after, text_of}
+use Rattle.khepri.specs.Store.{MaybeLogs}
 use Rattle.khepri.specs.Script.{AtFault, all_read, Script, Reads, EndsReading, BeginsReading}
 use Rattle.khepri.specs.Session.{HasPrefix}
 
@@ -20,13 +21,32 @@ AnswerStops stop.Damaged sink_rose disk_rose = ⊥
 AnswerStops stop.ReadFault sink_rose disk_rose = ⊥
 AnswerStops stop.TooLong sink_rose disk_rose = ⊥
 
--- A span of a run: the stamp and the moment at its start and the moment at its end, and what a crash since a moment might have left.
+-- A span of a run: the stamp and the moment at its start and the moment at its end, what a crash since a moment might have left, and what a
+-- read gives of the log at its start and at its end.
 pub record Span : Type 1 where
   pub stamp : ℕ
   pub from : ℕ
   pub to : ℕ
   pub past : ℕ → Files → ℕ → Type 0
   pub since : ℕ → Files → ℕ → Type 0
+  pub was : Option (List ℕ)
+  pub now : Option (List ℕ)
+
+-- Over the span the log gained the records of these commands, and is else as it was.
+abbrev pub Logs : Span → State → List Form → Type 0
+Logs span first forms = Told span.was span.now (λ was now. now ≡ log_after forms first was)
+
+-- A front of these commands was answered, and at most one more was executed, of whose reply a front was given. A log gained the records of
+-- these, and is else as it was.
+pub record OneBehind (first : State) (forms : List Form) (given was now : List ℕ) : Type 0 where
+  pub answered : List Form
+  pub last : List Form
+  pub one : length last ≤ 1
+  pub front : IsFrontOf (answered ++ last) forms
+  pub part : List ℕ
+  pub text : given ≡ text_of answered first ++ part
+  pub begun : IsFrontOf part (text_of last (state_after answered first))
+  pub log : now ≡ log_after (answered ++ last) first was
 
 -- Over the span a crash leaves the state after some of these commands.
 abbrev pub KeepsPrefix : Span → State → List Form → Type 0
@@ -38,6 +58,7 @@ pub record Served (is_end : Bool) (bytes left : List ℕ) (old new : State) (spa
   pub reads : Reads is_end bytes left forms
   pub text : given ≡ text_of forms old
   pub state : new ≡ state_after forms old
+  pub log : Logs span old forms
   pub crash : KeepsPrefix span old forms
 
 -- Over the span, the forms up to the first bytes that are no form were answered whole, and no others.
@@ -45,6 +66,7 @@ pub record ServedToFault (is_end : Bool) (bytes : List ℕ) (old : State) (span 
   pub forms : List Form
   pub reads : EndsReading is_end bytes forms AtFault
   pub text : given ≡ text_of forms old
+  pub log : Logs span old forms
   pub crash : KeepsPrefix span old forms
 
 -- Over the span, forms were executed, and a front of their replies was given.
@@ -52,6 +74,7 @@ pub record ServedPart (is_end : Bool) (bytes : List ℕ) (old : State) (span : S
   pub forms : List Form
   pub reads : BeginsReading is_end bytes forms
   pub front : IsFrontOf given (text_of forms old)
+  pub log : Told span.was span.now (OneBehind old forms given)
   pub crash : KeepsPrefix span old forms
 
 -- Over the span, the forms before one that is logged were answered whole, and of its reply nothing was given.
@@ -61,6 +84,7 @@ pub record ServedToDoubt (is_end : Bool) (bytes : List ℕ) (old : State) (span 
   pub reads : BeginsReading is_end bytes (answered ++ form ∷ [])
   pub text : given ≡ text_of answered old
   pub logged : IsTrue (store_logs form (state_after answered old))
+  pub log : Told span.was span.now (λ was now. MaybeLogs form (state_after answered old) (log_after answered old was) now)
   pub crash : KeepsPrefix span old (answered ++ form ∷ [])
 
 -- The lines from a place on were answered up to another place, behind which no whole line is left.

@@ -7,7 +7,7 @@ use Rattle.kh_log.specs.Records.{records_of, IsClosedAt}
 use Rattle.kh_log.specs.Log.{Place, Holds}
 use Rattle.kh_read.specs.declared.form.Form.{Form}
 use Rattle.khepri.specs.Tree.{Node}
-use Rattle.khepri.specs.State.{State, empty, store_after}
+use Rattle.khepri.specs.State.{State, empty, records_logged, store_after}
 use Rattle.khepri.specs.Recovery.{Recovered, Replays, Recovers}
 
 -- a fact of what a read gives of the files at entry, where they are told at exit: then they were told at entry
@@ -54,9 +54,13 @@ Begun was now = ((2 ≤ length was) × (now ≡ was)) ⊎ (IsShort was × (now �
 abbrev pub GainsRecords : (was now : List ℕ) → Type 0
 GainsRecords was now = (now ≡ was) ⊎ ((more : List (List ℕ)) × (0 < length more) × (records_of now ≡ records_of was ++ more))
 
--- what a read gives of file 1 before a run and after: a log was begun where there was none, and gained records
-abbrev pub KeepsRecords : (was now : List ℕ) → Type 0
-KeepsRecords was now = (log : List ℕ) × Begun was log × GainsRecords log now
+-- what a read gives of the log before a command that is logged, and after the disk failed: its record may be there
+abbrev pub MaybeLogs : Form → State → (was now : List ℕ) → Type 0
+MaybeLogs form s was now = (records_of now ≡ records_of was) ⊎ (records_of now ≡ records_of was ++ records_logged form s)
+
+-- the first holds of the bytes that were and others, and the second of these and the bytes that are
+abbrev pub InTurn : (first second : List ℕ → List ℕ → Type 0) → (was now : List ℕ) → Type 0
+InTurn first second was now = (between : List ℕ) × first was between × second between now
 
 -- what a read gives after a store was opened: what it gave before, but for a file 1 that held no log
 abbrev pub ReadsAsBefore : (seen seen' : ℕ → Option (List ℕ)) → Type 0

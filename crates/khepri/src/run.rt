@@ -3,9 +3,9 @@ ghost use Rattle.std.specs.Prelude.{◌≡◌, ◌≢◌, ◌<◌, ◌⊎◌, Er
 ghost use Rattle.kh_io.specs.Told.{Told, Extends, Rose};
 ghost use Rattle.kh_log.specs.Calls.{Grows};
 ghost use Rattle.khepri.specs.Recovery.{Recovery, Recovers};
-ghost use Rattle.khepri.specs.Store.{FilesTold, state_of, Stands, AreSafe, GainsRecords, KeepsRecords, WritesLogAlone};
+ghost use Rattle.khepri.specs.Store.{FilesTold, state_of, Stands, AreSafe, Begun, InTurn, GainsRecords, WritesLogAlone};
 ghost use Rattle.khepri.specs.Opening.{BeginByOpening};
-ghost use Rattle.khepri.specs.Run.{stop_status, run_status, Ends, Runs, FindsDamage, Never};
+ghost use Rattle.khepri.specs.Run.{stop_status, run_status, Ends, Runs, FindsDamage, Never, AsOpened};
 
 use crate::damage::report;
 use crate::input::{Piece, take_more};
@@ -37,14 +37,14 @@ impl Stop {
 /// Opens the store in the files of the host, and answers the script that it gives.
 pub fn run<H: Host>(alloc: Global, host: &mut H) -> Result<(), Stop>
     ensures ran { FilesTold (H.seen host.old) (H.seen host.new) (λ files. (found : Recovery) → Recovers files found → Runs found (run_status result) files
-        (record { stamp = H.stamp host.old; from = H.moment host.old; to = H.moment host.new; past = H.left_since host.old; since = H.left_since host.new })
+        (record { stamp = H.stamp host.old; from = H.moment host.old; to = H.moment host.new; past = H.left_since host.old; since = H.left_since host.new; was = H.seen host.old 1; now = H.seen host.new 1 })
         (H.image host.old) (H.image host.new) (H.seen host.old) (H.seen host.new) (H.left host.old) (H.left host.new) (H.given host.old) (H.given host.new)
         (H.journal host.old) (H.journal host.new)) }
     ensures files { WritesLogAlone (H.seen host.old) (H.seen host.new) (H.image host.old) (H.image host.new) (H.moment host.old) (H.moment host.new) (H.left_since host.old) (H.left_since host.new) }
-    ensures log { result ≢ Err Stop.DiskFault → result ≢ Err Stop.NoMemory → Told (H.seen host.old 1) (H.seen host.new 1) KeepsRecords }
+    ensures log { result ≢ Err Stop.DiskFault → result ≢ Err Stop.NoMemory → Told (H.seen host.old 1) (H.seen host.new 1) (InTurn Begun GainsRecords) }
     ensures opening { result ≢ Err Stop.DiskFault → result ≢ Err Stop.NoMemory → Told (H.seen host.old 1) (H.seen host.new 1)
         (λ was _. Extends (H.journal host.old) (H.journal host.new) (BeginByOpening was)) }
-    ensures safe { (run_status result ≡ 0) ⊎ (run_status result ≡ 1) → AreSafe (H.seen host.new) (H.image host.new) }
+    ensures safe { result ≢ Err Stop.DiskFault → result ≢ Err Stop.NoMemory → AreSafe (H.seen host.new) (H.image host.new) }
     ensures damage { result ≡ Err Stop.Damaged → FilesTold (H.seen host.old) (H.seen host.new) FindsDamage }
     ensures reads { result ≡ Err Stop.ReadFault → Rose (H.read_faults host.old) (H.read_faults host.new) }
     ensures writes { result ≡ Err Stop.WriteFault → Rose (H.write_faults host.old) (H.write_faults host.new) }
@@ -74,12 +74,12 @@ fn answer_script<H: Host>(
 ) -> Result<(), Stop>
     requires stands { Stands store.old (H.seen host.old 1) (H.image host.old 1) }
     requires room { 0 < length buffer.old }
-    ensures ran { Ends (state_of store.old) (run_status result) Never
-        (record { stamp = H.stamp host.old; from = H.moment host.old; to = H.moment host.new; past = H.left_since host.old; since = H.left_since host.new })
+    ensures ran { Ends (state_of store.old) (run_status result) Never AsOpened
+        (record { stamp = H.stamp host.old; from = H.moment host.old; to = H.moment host.new; past = H.left_since host.old; since = H.left_since host.new; was = H.seen host.old 1; now = H.seen host.new 1 })
         (H.image host.new) (H.left host.old) (H.left host.new) (H.given host.old) (H.given host.new) }
     ensures files { WritesLogAlone (H.seen host.old) (H.seen host.new) (H.image host.old) (H.image host.new) (H.moment host.old) (H.moment host.new) (H.left_since host.old) (H.left_since host.new) }
     ensures log { result ≢ Err Stop.DiskFault → Told (H.seen host.old 1) (H.seen host.new 1) GainsRecords }
-    ensures stands { OnOk result (Stands store.new (H.seen host.new 1) (H.image host.new 1)) }
+    ensures stands { result ≢ Err Stop.DiskFault → Stands store.new (H.seen host.new 1) (H.image host.new 1) }
     ensures damage { result ≡ Err Stop.Damaged → ⊥ }
     ensures reads { result ≡ Err Stop.ReadFault → Rose (H.read_faults host.old) (H.read_faults host.new) }
     ensures writes { result ≡ Err Stop.WriteFault → Rose (H.write_faults host.old) (H.write_faults host.new) }

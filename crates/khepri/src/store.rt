@@ -1,8 +1,7 @@
 //! The store: the tree, and the log that keeps it over a crash.
-ghost use Rattle.std.specs.Prelude.{◌≡◌, ◌≢◌, ◌≤◌, ◌++◌, ℕ, IsTrue, IfOk, OnOk, Err};
+ghost use Rattle.std.specs.Prelude.{◌≡◌, ◌≢◌, ◌≤◌, ℕ, IsTrue, IfOk, OnOk, Err};
 ghost use Rattle.kh_io.specs.Told.{Told, Kept, Extends, Rose};
 ghost use Rattle.kh_io.specs.Disk.{LeavesOnly};
-ghost use Rattle.kh_log.specs.Records.{records_of};
 ghost use Rattle.kh_log.specs.Calls.{Grows};
 ghost use Rattle.kh_read.specs.declared.form.Form.{Form};
 ghost use Rattle.kh_read.specs.declared.form.Form.TheVariants as form;
@@ -10,10 +9,10 @@ ghost use Rattle.khepri.specs.declared.store.OpenError.TheVariants as open_error
 ghost use Rattle.khepri.specs.declared.store.StoreError.TheVariants as store_error;
 ghost use Rattle.khepri.specs.Opening.{opening_error, OpenedBy};
 ghost use Rattle.khepri.specs.Command.{is_command, is_atom_path};
-ghost use Rattle.khepri.specs.State.{store_logs, records_logged, store_reply, store_after};
+ghost use Rattle.khepri.specs.State.{store_logs, log_with, store_reply, store_after};
 ghost use Rattle.khepri.specs.Recovery.{Recovered, Damaged, Recovers};
 ghost use Rattle.khepri.specs.Damage.{FailBefore};
-ghost use Rattle.khepri.specs.Store.{FilesTold, state_of, Stands, AreSafe, Begun, GainsRecords, Opening, ReadsAsBefore, WritesLogAlone, Executing};
+ghost use Rattle.khepri.specs.Store.{FilesTold, state_of, Stands, AreSafe, Begun, GainsRecords, MaybeLogs, Opening, ReadsAsBefore, WritesLogAlone, Executing};
 
 use crate::command::pack_put;
 use crate::machine::store_full;
@@ -157,7 +156,8 @@ impl Store {
         ensures no_memory { result ≡ Err store_error.NoMemory → (self.new ≡ self.old) × (host.new ≡ host.old) }
         ensures files { WritesLogAlone (H.seen host.old) (H.seen host.new) (H.image host.old) (H.image host.new) (H.moment host.old) (H.moment host.new) (H.left_since host.old) (H.left_since host.new) }
         ensures log { result ≢ Err store_error.DiskFault → Told (H.seen host.old 1) (H.seen host.new 1) GainsRecords }
-        ensures logged { OnOk result (Told (H.seen host.old 1) (H.seen host.new 1) (λ was now. records_of now ≡ records_of was ++ records_logged form (state_of self.old))) }
+        ensures logged { OnOk result (Told (H.seen host.old 1) (H.seen host.new 1) (λ was now. now ≡ log_with form (state_of self.old) was)) }
+        ensures logged_in_doubt { result ≡ Err store_error.DiskFault → Told (H.seen host.old 1) (H.seen host.new 1) (MaybeLogs form (state_of self.old)) }
         ensures in_doubt { result ≡ Err store_error.DiskFault → IsTrue (store_logs form (state_of self.old)) }
         ensures fault { result ≡ Err store_error.DiskFault → Rose (H.disk_faults host.old) (H.disk_faults host.new) }
         ensures no_fault { OnOk result (H.disk_faults host.new ≡ H.disk_faults host.old) }
@@ -191,7 +191,8 @@ impl Store {
         ensures no_memory { result ≡ Err store_error.NoMemory → (self.new ≡ self.old) × (host.new ≡ host.old) }
         ensures files { WritesLogAlone (H.seen host.old) (H.seen host.new) (H.image host.old) (H.image host.new) (H.moment host.old) (H.moment host.new) (H.left_since host.old) (H.left_since host.new) }
         ensures log { result ≢ Err store_error.DiskFault → Told (H.seen host.old 1) (H.seen host.new 1) GainsRecords }
-        ensures logged { OnOk result (Told (H.seen host.old 1) (H.seen host.new 1) (λ was now. records_of now ≡ records_of was ++ records_logged (form.Put path number) (state_of self.old))) }
+        ensures logged { OnOk result (Told (H.seen host.old 1) (H.seen host.new 1) (λ was now. now ≡ log_with (form.Put path number) (state_of self.old) was)) }
+        ensures logged_in_doubt { result ≡ Err store_error.DiskFault → Told (H.seen host.old 1) (H.seen host.new 1) (MaybeLogs (form.Put path number) (state_of self.old)) }
         ensures in_doubt { result ≡ Err store_error.DiskFault → IsTrue (store_logs (form.Put path number) (state_of self.old)) }
         ensures fault { result ≡ Err store_error.DiskFault → Rose (H.disk_faults host.old) (H.disk_faults host.new) }
         ensures no_fault { OnOk result (H.disk_faults host.new ≡ H.disk_faults host.old) }

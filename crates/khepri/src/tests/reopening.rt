@@ -17,6 +17,10 @@ const STOCK: &[u8] =
 const PUT_AND_MORE: &[u8] =
     b"\xa5\0\0\0\x20\x06\0\0\0\x04\x02\x03put\x05\0\0\0\x01\x02\x05stock\x04\x01\x02\0\x96\x07\0\0\0\0\xa5\0\0\0\x01\x04\0";
 
+// The same, and behind it what is left of 50 bytes `z` that stood behind the gate before the put.
+const STOCK_AND_REST: &[u8] =
+    b"\xa5\0\0\0\x20\x06\0\0\0\x04\x02\x03put\x05\0\0\0\x01\x02\x05stock\x04\x01\x02\0\x96\x07\0\0\0\0\0zzzzzzzzzzzzz";
+
 const GET_STOCK: &[u8] = b"{get,[stock]}.\n";
 
 const FOUND: &[u8] = b"{ok,150}.\n";
@@ -96,6 +100,74 @@ fn a_put_is_found_again(rt: HostRuntime) -> Result<(), Fail> {
     let after = image(&host, host.calls(), None)?;
     assert_eq!(rt; after.l0.as_slice(), STOCK);
     reopens(&rt, alloc, after, GET_STOCK, FOUND, 0)
+}
+
+// A log, a script and the calls that fail; then the status, and the log afterwards, to the last byte.
+struct Logged {
+    log: &'static [u8],
+    script: &'static [u8],
+    failing: &'static [u64],
+    status: u8,
+    after: &'static [u8],
+}
+
+// Over an empty file call 9 takes the script, calls 10 to 13 log the put, call 14 gives its reply, and call 15 takes what comes behind.
+static LOGGED: [Logged; 6] = [
+    Logged {
+        log: b"",
+        script: b"{put,[stock],150}.\n",
+        failing: &[],
+        status: 0,
+        after: STOCK,
+    },
+    Logged {
+        log: b"",
+        script: b"{put,[stock],150}.\n{put",
+        failing: &[],
+        status: 2,
+        after: STOCK,
+    },
+    Logged {
+        log: b"",
+        script: b"{put,[stock],150}.\n",
+        failing: &[15],
+        status: 3,
+        after: STOCK,
+    },
+    Logged {
+        log: b"",
+        script: b"{put,[stock],150}.\n{put,[stock],1}.\n",
+        failing: &[14],
+        status: 4,
+        after: STOCK,
+    },
+    // A gate that is closed by another byte than `00`, and what stands behind it.
+    Logged {
+        log: b"\x01zzzzzzzzzzzzzzzzzzzzzzzzzzzzzzzzzzzzzzzzzzzzzzzzzz",
+        script: b"{put,[stock],150}.\n",
+        failing: &[],
+        status: 0,
+        after: STOCK_AND_REST,
+    },
+    Logged {
+        log: b"\x01zz",
+        script: GET_STOCK,
+        failing: &[],
+        status: 0,
+        after: b"\x01zz",
+    },
+];
+
+#[test]
+fn a_log_holds_what_was_executed_and_what_it_held(rt: HostRuntime) -> Result<(), Fail> {
+    let alloc = rt.alloc();
+    for row in &LOGGED {
+        let mut host = host_over(alloc, files_of(alloc, row.log)?, row.script, row.failing)?;
+        assert_eq!(rt; run(alloc, &mut host)?, row.status);
+        let after = image(&host, host.calls(), None)?;
+        assert_eq!(rt; after.l0.as_slice(), row.after);
+    }
+    Ok(())
 }
 
 #[test]

@@ -22,7 +22,7 @@ not_ended s e = cc
 pub pieces-init : goal.pieces-init
 pieces-init g c =
     let host = g.H.Disk in
-    let view = view_of host.left host.given host.stamp host.moment host.left_since g.met.H.Disk.stamp_counts in
+    let view = view_of host.left host.given host.seen host.stamp host.moment host.left_since g.met.H.Disk.stamp_counts in
     record {
       run = rw c.new-input.ensures.items (starts (view c.args.host.now) (state_of c.args.store.now) (λ files s left.
           let now = g.met.H.Disk.only_now c.args.host.now files s left in
@@ -45,10 +45,10 @@ take_more-requires-clause-short g c = c.pieces.invariant.run.short
 pub returns-in-Err-clause-ran : goal.returns-in-Err-clause-ran
 returns-in-Err-clause-ran g c =
     let host = g.H.Disk in
-    let view = view_of host.left host.given host.stamp host.moment host.left_since g.met.H.Disk.stamp_counts in
+    let view = view_of host.left host.given host.seen host.stamp host.moment host.left_since g.met.H.Disk.stamp_counts in
     let call = c.in-Err.ensures in
     take_stops (view c.args.host.now) (view c.pieces.host) (view c.take_more.new.host) c.pieces.input.items c.pieces.at
-    (state_of c.args.store.now) (state_of c.pieces.store) (host.image c.pieces.host) _ c.in-Err.stop _ c.pieces.invariant.run call.stops call.sink call.stamp
+    (state_of c.args.store.now) (state_of c.pieces.store) (host.image c.pieces.host) _ c.in-Err.stop _ c.pieces.invariant.run call.stops call.sink (call.files 1 (omega arith)).read call.stamp
     (stands_recovers c.pieces.store (host.seen c.pieces.host) (host.image c.pieces.host) c.pieces.invariant.stands) call.any_moment
 
 pub returns-in-Err-clause-files : goal.returns-in-Err-clause-files
@@ -59,6 +59,12 @@ returns-in-Err-clause-log g c = λ no_fault.
     let host = g.H.Disk in
     gains_then (host.seen c.args.host.now 1) (host.seen c.pieces.host 1) (host.seen c.take_more.new.host 1)
     c.pieces.invariant.log (gains_kept _ _ (c.in-Err.ensures.files 1 (omega arith)).read)
+
+pub returns-in-Err-clause-stands : goal.returns-in-Err-clause-stands
+returns-in-Err-clause-stands g c = λ other.
+    let host = g.H.Disk in
+    stands_stay c.pieces.store (host.seen c.pieces.host 1) (host.seen c.take_more.new.host 1) (c.in-Err.ensures.files 1 (omega arith))
+    (λ bytes none image. g.met.H.Disk.untold_is_not_left c.take_more.new.host 1 bytes (omega arith) none image) c.pieces.invariant.stands
 
 pub returns-in-Err-clause-grows : goal.returns-in-Err-clause-grows
 returns-in-Err-clause-grows g c = grows_both _ _ _ c.pieces.invariant.grows c.in-Err.ensures.grows
@@ -124,25 +130,25 @@ pieces-smaller g c =
 pub serve-requires-clause-within : goal.serve-requires-clause-within
 serve-requires-clause-within g c =
     let host = g.H.Disk in
-    let view = view_of host.left host.given host.stamp host.moment host.left_since g.met.H.Disk.stamp_counts in
+    let view = view_of host.left host.given host.seen host.stamp host.moment host.left_since g.met.H.Disk.stamp_counts in
     let call = c.in-Ok-Some.ensures in
     let more = took_piece (view c.args.host.now) (view c.pieces.host) (view c.take_more.new.host) c.pieces.input.items c.take_more.new.input.items c.pieces.at
-    (state_of c.args.store.now) (state_of c.pieces.store) (host.image c.pieces.host) c.pieces.invariant.run (rw c.in-Ok-Some.field-0-is at call.taken) call.sink call.stamp
+    (state_of c.args.store.now) (state_of c.pieces.store) (host.image c.pieces.host) c.pieces.invariant.run (rw c.in-Ok-Some.field-0-is at call.taken) call.sink (call.files 1 (omega arith)).read call.stamp
     (stands_recovers c.pieces.store (host.seen c.pieces.host) (host.image c.pieces.host) c.pieces.invariant.stands) call.any_moment in
     rw c.as_slice.ensures.value more.within
 
 pub pieces-preserved : goal.pieces-preserved
 pieces-preserved g c =
     let host = g.H.Disk in
-    let view = view_of host.left host.given host.stamp host.moment host.left_since g.met.H.Disk.stamp_counts in
+    let view = view_of host.left host.given host.seen host.stamp host.moment host.left_since g.met.H.Disk.stamp_counts in
     let call = c.in-Ok-Some.ensures in
     let more = took_piece (view c.args.host.now) (view c.pieces.host) (view c.take_more.new.host) c.pieces.input.items c.take_more.new.input.items c.pieces.at
-    (state_of c.args.store.now) (state_of c.pieces.store) (host.image c.pieces.host) c.pieces.invariant.run (rw c.in-Ok-Some.field-0-is at call.taken) call.sink call.stamp
+    (state_of c.args.store.now) (state_of c.pieces.store) (host.image c.pieces.host) c.pieces.invariant.run (rw c.in-Ok-Some.field-0-is at call.taken) call.sink (call.files 1 (omega arith)).read call.stamp
     (stands_recovers c.pieces.store (host.seen c.pieces.host) (host.image c.pieces.host) c.pieces.invariant.stands) call.any_moment in
     record {
       run = served_on (view c.args.host.now) (view c.take_more.new.host) (view c.serve.new.host) c.take_more.new.input.items c.pieces.at c.in-Ok.next
           (state_of c.args.store.now) (state_of c.pieces.store) (state_of c.serve.new.store) more (rw c.as_slice.ensures.value at c.in-Ok.ensures.served) c.in-Ok.ensures.input;
-      stands = c.in-Ok.ensures.stands;
+      stands = c.in-Ok.ensures.stands (λ e. cc);
       files = took_and_served c.pieces.invariant.files call.files call.any_moment c.in-Ok.ensures.files;
       grows = grows_both _ _ _ (grows_both _ _ _ c.pieces.invariant.grows call.grows) c.in-Ok.ensures.grows;
       log = gains_served (host.seen c.args.host.now 1) (host.seen c.pieces.host 1) (host.seen c.take_more.new.host 1) (host.seen c.serve.new.host 1)
@@ -155,10 +161,10 @@ pieces-preserved g c =
 pub returns-in-Err-serve-clause-ran : goal.returns-in-Err-serve-clause-ran
 returns-in-Err-serve-clause-ran g c =
     let host = g.H.Disk in
-    let view = view_of host.left host.given host.stamp host.moment host.left_since g.met.H.Disk.stamp_counts in
+    let view = view_of host.left host.given host.seen host.stamp host.moment host.left_since g.met.H.Disk.stamp_counts in
     let call = c.in-Ok-Some.ensures in
     let more = took_piece (view c.args.host.now) (view c.pieces.host) (view c.take_more.new.host) c.pieces.input.items c.take_more.new.input.items c.pieces.at
-    (state_of c.args.store.now) (state_of c.pieces.store) (host.image c.pieces.host) c.pieces.invariant.run (rw c.in-Ok-Some.field-0-is at call.taken) call.sink call.stamp
+    (state_of c.args.store.now) (state_of c.pieces.store) (host.image c.pieces.host) c.pieces.invariant.run (rw c.in-Ok-Some.field-0-is at call.taken) call.sink (call.files 1 (omega arith)).read call.stamp
     (stands_recovers c.pieces.store (host.seen c.pieces.host) (host.image c.pieces.host) c.pieces.invariant.stands) call.any_moment in
     served_stops (view c.args.host.now) (view c.take_more.new.host) (view c.serve.new.host) c.take_more.new.input.items c.pieces.at
     (state_of c.args.store.now) (state_of c.pieces.store) (host.image c.serve.new.host) c.in-Err-serve.stop _ _ more (rw c.as_slice.ensures.value at c.in-Err-serve.ensures.stops)
@@ -176,6 +182,9 @@ returns-in-Err-serve-clause-log g c = λ no_fault.
 
 pub returns-in-Err-serve-clause-grows : goal.returns-in-Err-serve-clause-grows
 returns-in-Err-serve-clause-grows g c = grows_both _ _ _ (grows_both _ _ _ c.pieces.invariant.grows c.in-Ok-Some.ensures.grows) c.in-Err-serve.ensures.grows
+
+pub returns-in-Err-serve-clause-stands : goal.returns-in-Err-serve-clause-stands
+returns-in-Err-serve-clause-stands g c = λ other. c.in-Err-serve.ensures.stands (λ e. other cc)
 
 pub returns-in-Err-serve-clause-damage : goal.returns-in-Err-serve-clause-damage
 returns-in-Err-serve-clause-damage g c e =
@@ -226,16 +235,16 @@ serve-requires-2-clause-stands g c =
 pub returns-in-Ok-serve-clause-ran : goal.returns-in-Ok-serve-clause-ran
 returns-in-Ok-serve-clause-ran g c =
     let host = g.H.Disk in
-    let view = view_of host.left host.given host.stamp host.moment host.left_since g.met.H.Disk.stamp_counts in
+    let view = view_of host.left host.given host.seen host.stamp host.moment host.left_since g.met.H.Disk.stamp_counts in
     let call = c.in-Ok-None.ensures in
     let none = rw c.in-Ok-None.field-0-is at call.taken in
     let came = all_came (view c.args.host.now) (view c.pieces.host) (view c.take_more.new.host) c.pieces.input.items c.take_more.new.input.items c.pieces.at
-    (state_of c.args.store.now) (state_of c.pieces.store) (host.image c.pieces.host) c.pieces.invariant.run none call.sink call.stamp
+    (state_of c.args.store.now) (state_of c.pieces.store) (host.image c.pieces.host) c.pieces.invariant.run none call.sink (call.files 1 (omega arith)).read call.stamp
     (stands_recovers c.pieces.store (host.seen c.pieces.host) (host.image c.pieces.host) c.pieces.invariant.stands) call.any_moment in
     finished (view c.args.host.now) (view c.take_more.new.host) (view c.serve-2.new.host) c.pieces.input.items c.pieces.at c.in-Ok-serve.field-0
     (state_of c.args.store.now) (state_of c.pieces.store) (state_of c.serve-2.new.store) (host.image c.serve-2.new.host) came
     (rw (c.as_slice-2.ensures.value, none.0) at c.in-Ok-serve.ensures.served) c.in-Ok-serve.ensures.input
-    (stands_recovers c.serve-2.new.store (host.seen c.serve-2.new.host) (host.image c.serve-2.new.host) c.in-Ok-serve.ensures.stands)
+    (stands_recovers c.serve-2.new.store (host.seen c.serve-2.new.host) (host.image c.serve-2.new.host) (c.in-Ok-serve.ensures.stands (λ e. cc)))
 
 pub returns-in-Ok-serve-clause-files : goal.returns-in-Ok-serve-clause-files
 returns-in-Ok-serve-clause-files g c =
@@ -251,7 +260,7 @@ pub returns-in-Ok-serve-clause-grows : goal.returns-in-Ok-serve-clause-grows
 returns-in-Ok-serve-clause-grows g c = grows_both _ _ _ (grows_both _ _ _ c.pieces.invariant.grows c.in-Ok-None.ensures.grows) c.in-Ok-serve.ensures.grows
 
 pub returns-in-Ok-serve-clause-stands : goal.returns-in-Ok-serve-clause-stands
-returns-in-Ok-serve-clause-stands g c = c.in-Ok-serve.ensures.stands
+returns-in-Ok-serve-clause-stands g c = λ other. c.in-Ok-serve.ensures.stands (λ e. cc)
 
 pub returns-in-Ok-serve-clause-damage : goal.returns-in-Ok-serve-clause-damage
 returns-in-Ok-serve-clause-damage g c e = not_ended stop.Damaged e
@@ -277,11 +286,11 @@ returns-in-Ok-serve-clause-no_disk_fault g c = λ other. c.in-Ok-serve.ensures.n
 pub returns-clause-ran : goal.returns-clause-ran
 returns-clause-ran g c =
     let host = g.H.Disk in
-    let view = view_of host.left host.given host.stamp host.moment host.left_since g.met.H.Disk.stamp_counts in
+    let view = view_of host.left host.given host.seen host.stamp host.moment host.left_since g.met.H.Disk.stamp_counts in
     let call = c.in-Ok-None.ensures in
     let none = rw c.in-Ok-None.field-0-is at call.taken in
     let came = all_came (view c.args.host.now) (view c.pieces.host) (view c.take_more.new.host) c.pieces.input.items c.take_more.new.input.items c.pieces.at
-    (state_of c.args.store.now) (state_of c.pieces.store) (host.image c.pieces.host) c.pieces.invariant.run none call.sink call.stamp
+    (state_of c.args.store.now) (state_of c.pieces.store) (host.image c.pieces.host) c.pieces.invariant.run none call.sink (call.files 1 (omega arith)).read call.stamp
     (stands_recovers c.pieces.store (host.seen c.pieces.host) (host.image c.pieces.host) c.pieces.invariant.stands) call.any_moment in
     finish_stops (view c.args.host.now) (view c.take_more.new.host) (view c.serve-2.new.host) c.pieces.input.items c.pieces.at
     (state_of c.args.store.now) (state_of c.pieces.store) (host.image c.serve-2.new.host) c.in-Err-serve-2.stop _ _ came
@@ -296,6 +305,9 @@ returns-clause-log g c = λ no_fault.
     let host = g.H.Disk in
     gains_served (host.seen c.args.host.now 1) (host.seen c.pieces.host 1) (host.seen c.take_more.new.host 1) (host.seen c.serve-2.new.host 1)
     c.pieces.invariant.log (c.in-Ok-None.ensures.files 1 (omega arith)).read (c.in-Err-serve-2.ensures.log (λ e. no_fault cc))
+
+pub returns-clause-stands : goal.returns-clause-stands
+returns-clause-stands g c = λ other. c.in-Err-serve-2.ensures.stands (λ e. other cc)
 
 pub returns-clause-grows : goal.returns-clause-grows
 returns-clause-grows g c = grows_both _ _ _ (grows_both _ _ _ c.pieces.invariant.grows c.in-Ok-None.ensures.grows) c.in-Err-serve-2.ensures.grows

@@ -10,8 +10,8 @@ abbrev pub invariant-pieces : goal.invariant-pieces
 invariant-pieces g l =
     let host = g.H.Disk in
     record {
-      run : IsRunning (view_of host.left host.given host.stamp host.moment host.left_since g.met.H.Disk.stamp_counts l.fn.host)
-          (view_of host.left host.given host.stamp host.moment host.left_since g.met.H.Disk.stamp_counts l.host)
+      run : IsRunning (view_of host.left host.given host.seen host.stamp host.moment host.left_since g.met.H.Disk.stamp_counts l.fn.host)
+          (view_of host.left host.given host.seen host.stamp host.moment host.left_since g.met.H.Disk.stamp_counts l.host)
           l.input.items l.at (state_of l.fn.store) (state_of l.store);
       stands : Stands l.store (host.seen l.host 1) (host.image l.host 1);
       files : WritesLogAlone (host.seen l.fn.host) (host.seen l.host) (host.image l.fn.host) (host.image l.host)

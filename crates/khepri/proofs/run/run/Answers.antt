@@ -1,13 +1,13 @@
-use Rattle.std.proofs.Common.{◌≡◌, ◌⊎◌, ◌∙◌, ◌≤◌, ℕ, List, Option, ap, subst, refl, inl, inr, Ok, Err, arith}
-use Rattle.std.specs.Prelude.{Result, OnOk}
+use Rattle.std.proofs.Common.{◌≡◌, ◌⊎◌, ◌∙◌, ℕ, List, Option, ap, subst, refl, inl, inr, Ok, Err, arith}
+use Rattle.std.specs.Prelude.{Result}
 use Rattle.kh_io.specs.Told.{Extends, IsFrontOf, Rose}
 use Rattle.kh_io.proofs.Telling.{told_map}
 use Rattle.khepri.specs.declared.session.Stop.{Stop}
 use Rattle.khepri.specs.declared.session.Stop.TheVariants as stop
 use Rattle.khepri.specs.declared.store.OpenError.{OpenError}
 use Rattle.khepri.specs.declared.store.OpenError.TheVariants as open_error
-use Rattle.khepri.specs.Run.{stop_status, run_status, damage_line}
-use Rattle.khepri.specs.Store.{Opened, state_of, Stands}
+use Rattle.khepri.specs.Run.{stop_status, damage_line}
+use Rattle.khepri.specs.Store.{Opened, state_of}
 use Rattle.khepri.proofs.Entry.{runs_opened, runs_damaged, runs_faulted, runs_out, runs_untouched, finds_damage}
 use Rattle.khepri.proofs.LogAlone.{untouched, none_touched, written_then, written_tells, gains_kept, keeps_then}
 use Rattle.khepri.proofs.Safe.{all_safe, log_safe}
@@ -25,6 +25,16 @@ unopened e = Err e
 
 refused : {x y : OpenError} → x ≡ y → unopened x ≡ unopened y
 refused e = ap unopened e
+
+-- no disk fault was met where the store was opened, the files are damaged, or memory ran out
+opened_whole : (store : Opened) → Ok store ≡ unopened open_error.DiskFault → ⊥
+opened_whole store e = cc
+
+damaged_whole : {x : OpenError} {file offset : ℕ} → x ≡ open_error.Damaged file offset → unopened x ≡ unopened open_error.DiskFault → ⊥
+damaged_whole is e = cc
+
+out_whole : {x : OpenError} → x ≡ open_error.NoMemory → unopened x ≡ unopened open_error.DiskFault → ⊥
+out_whole is e = cc
 
 abbrev Reported : Stop → Type 0
 Reported s = (s ≡ stop.Damaged) ⊎ ((s ≡ stop.WriteFault) ⊎ (s ≡ stop.NoMemory))
@@ -83,7 +93,7 @@ returns-in-Ok-open-clause-ran g c =
     (host.given c.args.host.now) (host.given c.open.new.host) (host.given c.answer_script.new.host) (host.journal c.args.host.now) (host.journal c.answer_script.new.host) (host.stamp c.args.host.now) (host.stamp c.open.new.host)
     (host.moment c.args.host.now) (host.moment c.open.new.host) (host.moment c.answer_script.new.host)
     (host.left_since c.args.host.now) (host.left_since c.open.new.host) (host.left_since c.answer_script.new.host)
-    opened.recovered (written_tells ran.files) opened.stamp opened.any_moment opened.input opened.sink ran.ran
+    opened.recovered (written_tells ran.files) opened.stamp opened.any_moment (opened.begun (opened_whole c.in-Ok-open.store)) opened.input opened.sink ran.ran
 
 pub returns-in-Err-Damaged-clause-ran : goal.returns-in-Err-Damaged-clause-ran
 returns-in-Err-Damaged-clause-ran g c =
@@ -144,7 +154,7 @@ returns-clause-ran g c =
     runs_out (host.seen c.args.host.now) (host.seen c.open.new.host) (host.image c.args.host.now) (host.image c.open.new.host)
     (host.left c.args.host.now) (host.left c.open.new.host) (host.given c.args.host.now) (host.given c.open.new.host) (host.journal c.args.host.now) (host.journal c.open.new.host) (host.stamp c.args.host.now)
     (host.moment c.args.host.now) (host.moment c.open.new.host) (host.left_since c.args.host.now) (host.left_since c.open.new.host)
-    opened.reads opened.any_moment opened.input opened.sink
+    opened.reads opened.any_moment opened.input opened.sink (inr (opened.begun (out_whole c.in-Err-NoMemory.field-0-is)))
 
 pub returns-in_default-clause-files : goal.returns-in_default-clause-files
 returns-in_default-clause-files g c = untouched _ _ _ _ _ (g.met.H.Disk.only_now c.args.host.now)
@@ -155,38 +165,13 @@ returns-in-Ok-open-clause-files g c = written_then c.in-Ok-open.ensures.files c.
 pub returns-in-Err-Damaged-clause-files : goal.returns-in-Err-Damaged-clause-files
 returns-in-Err-Damaged-clause-files g c = written_then c.in-Err-Damaged.ensures.files (none_touched c.report.ensures.files c.report.ensures.any_moment)
 
-stops_above_0 : (s : Stop) → 1 ≤ stop_status s
-stops_above_0 stop.Damaged = omega arith
-stops_above_0 stop.Syntax = omega arith
-stops_above_0 stop.ReadFault = omega arith
-stops_above_0 stop.WriteFault = omega arith
-stops_above_0 stop.DiskFault = omega arith
-stops_above_0 stop.TooLong = omega arith
-stops_above_0 stop.NoMemory = omega arith
-
--- a run that ended at 0 or at 1 was done or met damage
-done_or_damaged : {P : Type 0} (r : Result (Unit {0}) Stop) → (run_status r ≡ 0) ⊎ (run_status r ≡ 1) → OnOk r P → (r ≡ stopped stop.Damaged → P) → P
-done_or_damaged (Ok done) status at_ok damaged = at_ok
-done_or_damaged (Err s) (inl e) at_ok damaged = absurd (omega (arith, e, stops_above_0 s))
-done_or_damaged (Err s) (inr e) at_ok damaged = damaged (ap stopped (is_damage s e))
-
--- no disk fault was met where the store was opened, or the files are damaged
-opened_whole : (store : Opened) → Ok store ≡ unopened open_error.DiskFault → ⊥
-opened_whole store e = cc
-
-damaged_whole : {x : OpenError} {file offset : ℕ} → x ≡ open_error.Damaged file offset → unopened x ≡ unopened open_error.DiskFault → ⊥
-damaged_whole is e = cc
-
 pub returns-in-Ok-open-clause-safe : goal.returns-in-Ok-open-clause-safe
-returns-in-Ok-open-clause-safe g c status =
-    let host = g.H.Disk in
+returns-in-Ok-open-clause-safe g c = λ no_fault enough.
     let ran = c.answer_script.ensures in
-    let stands = done_or_damaged {P = Stands c.answer_script.new.store (host.seen c.answer_script.new.host 1) (host.image c.answer_script.new.host 1)}
-    c.answer_script.result status ran.stands (λ e. absurd (ran.damage e)) in
-    log_safe (c.in-Ok-open.ensures.safe (opened_whole c.in-Ok-open.store)) ran.files stands.safe (g.met.H.Disk.untold_is_not_left c.answer_script.new.host)
+    log_safe (c.in-Ok-open.ensures.safe (opened_whole c.in-Ok-open.store)) ran.files (ran.stands no_fault).safe (g.met.H.Disk.untold_is_not_left c.answer_script.new.host)
 
 pub returns-in-Err-Damaged-clause-safe : goal.returns-in-Err-Damaged-clause-safe
-returns-in-Err-Damaged-clause-safe g c status =
+returns-in-Err-Damaged-clause-safe g c = λ no_fault enough.
     all_safe (c.in-Err-Damaged.ensures.safe (damaged_whole c.in-Err-Damaged.field-0-is)) c.report.ensures.files (g.met.H.Disk.untold_is_not_left c.report.new.host)
 
 -- a log was begun, and gained what the script logs

@@ -14,7 +14,7 @@ lines-init g c =
     let host = g.H.Disk in
     record {
       within = c.requires.within;
-      given = nothing_served c.args.is_end (drop c.args.at c.args.input.now) (state_of c.args.store.now) (host.given c.args.host.now) _ _ _ (λ files s left.
+      given = nothing_served c.args.is_end (drop c.args.at c.args.input.now) (state_of c.args.store.now) (host.given c.args.host.now) (host.seen c.args.host.now 1) _ _ _ (λ files s left.
           let now = g.met.H.Disk.only_now c.args.host.now files s left in
           (stands_recovers c.args.store.now (host.seen c.args.host.now) (host.image c.args.host.now) c.requires.stands files now.0, now.1));
       stands = c.requires.stands;
@@ -40,9 +40,9 @@ returns-in-Err-answer-clause-stops g c =
     let call = c.in-Err-answer.ensures in
     no_reply c.args.is_end (drop c.args.at c.args.input.now) (drop c.lines.place c.args.input.now) (drop c.in-Ok-Form.next c.args.input.now)
     (state_of c.args.store.now) (state_of c.lines.store) c.in-Ok-Form.form (host.given c.args.host.now) (host.given c.lines.host) (host.given c.answer.new.host)
-    (host.stamp c.args.host.now) (host.stamp c.lines.host) (host.stamp c.answer.new.host) _ _ c.in-Err-answer.stop
+    (host.stamp c.args.host.now) (host.stamp c.lines.host) (host.stamp c.answer.new.host) _ _ (host.seen c.args.host.now 1) (host.seen c.lines.host 1) (host.seen c.answer.new.host 1) c.in-Err-answer.stop
     (counts _ _ (g.met.H.Disk.stamp_counts c.args.host.now)) (counts _ _ (g.met.H.Disk.stamp_counts c.lines.host)) (counts _ _ (g.met.H.Disk.stamp_counts c.answer.new.host))
-    before.given line.0 call.front call.in_doubt call.any_moment call.stops (λ rose. rw (← before.no_fault) rose) (λ rose. rw (← before.no_disk_fault) rose)
+    before.given line.0 call.front call.in_doubt call.logged call.logged_in_doubt call.no_memory call.any_moment call.stops (λ rose. rw (← before.no_fault) rose) (λ rose. rw (← before.no_disk_fault) rose)
 
 pub lines-preserved : goal.lines-preserved
 lines-preserved g c =
@@ -55,10 +55,10 @@ lines-preserved g c =
       given = one_line c.args.is_end (drop c.args.at c.args.input.now) (drop c.lines.place c.args.input.now) (drop c.in-Ok-Form.next c.args.input.now)
           (state_of c.args.store.now) (state_of c.lines.store) (state_of c.answer.new.store) c.in-Ok-Form.form
           (host.given c.args.host.now) (host.given c.lines.host) (host.given c.answer.new.host)
-          (host.stamp c.args.host.now) (host.stamp c.lines.host) (host.stamp c.answer.new.host) _ _
+          (host.stamp c.args.host.now) (host.stamp c.lines.host) (host.stamp c.answer.new.host) _ _ (host.seen c.args.host.now 1) (host.seen c.lines.host 1) (host.seen c.answer.new.host 1)
           (counts _ _ (g.met.H.Disk.stamp_counts c.args.host.now)) (counts _ _ (g.met.H.Disk.stamp_counts c.lines.host)) (counts _ _ (g.met.H.Disk.stamp_counts c.answer.new.host))
-          before.given line.0 call.given call.any_moment call.after;
-      stands = call.stands;
+          before.given line.0 call.given call.any_moment call.after (call.logged (λ e. cc) (λ e. cc));
+      stands = call.stands (λ e. cc);
       files = written_then before.files call.files;
       grows = grows_both _ _ _ before.grows call.grows;
       log = gains_then (host.seen c.args.host.now 1) (host.seen c.lines.host 1) (host.seen c.answer.new.host 1) before.log (call.log (λ e. cc));

@@ -11,7 +11,7 @@ invariant-lines g l =
     record {
       within : l.place ≤ length l.fn.input;
       given : SoFar l.fn.is_end (drop l.fn.at l.fn.input) (drop l.place l.fn.input) (state_of l.fn.store) (state_of l.store)
-          (span_to (host.stamp l.fn.host) (host.moment l.fn.host) (host.moment l.host) (host.left_since l.fn.host) (host.left_since l.host))
+          (span_to (host.stamp l.fn.host) (host.moment l.fn.host) (host.moment l.host) (host.left_since l.fn.host) (host.left_since l.host) (host.seen l.fn.host 1) (host.seen l.host 1))
           (host.given l.fn.host) (host.given l.host);
       stands : Stands l.store (host.seen l.host 1) (host.image l.host 1);
       files : WritesLogAlone (host.seen l.fn.host) (host.seen l.host) (host.image l.fn.host) (host.image l.host)

@@ -5,7 +5,7 @@ use Rattle.kh_log.specs.Records.{IsClosedAt}
 use Rattle.kh_read.specs.declared.form.Form.TheVariants as form
 use Rattle.khepri.specs.Store.{Opened, state_of}
 use Rattle.khepri.proofs.LogAlone.{log_written}
-use Rattle.khepri.proofs.Executing.{stood, closed_left, writes, append_leaves, gains_one, stands_after, logs_it, logs_one, logs_nothing, no_room, no_place, logged_state}
+use Rattle.khepri.proofs.Executing.{stood, closed_left, writes, append_leaves, gains_one, stands_after, logs_it, logs_one, maybe_logs, logs_nothing, no_room, no_place, logged_state}
 use Rattle.khepri.proofs.store.Store.execute_put.Goals as goal
 
 pub returns-in_err-bytes-clause-any_moment : goal.returns-in_err-bytes-clause-any_moment
@@ -104,12 +104,12 @@ returns-in-Ok-clause-log g c = λ no_fault.
 -- which is that of the put, or none
 pub returns-then-not-has_room-clause-logged : goal.returns-then-not-has_room-clause-logged
 returns-then-not-has_room-clause-logged g c =
-    logs_nothing (g.H.Disk.seen c.args.host.now 1) _ (no_room c.args.path c.args.number _ c.args.self.now _ c.in_ok-bytes.bytes.items c.end.result c.len.result (to_z-of_z _ _ c.ranges.number)
+    logs_nothing (form.Put c.args.path c.args.number) (state_of c.args.self.now) (g.H.Disk.seen c.args.host.now 1) (no_room c.args.path c.args.number _ c.args.self.now _ c.in_ok-bytes.bytes.items c.end.result c.len.result (to_z-of_z _ _ c.ranges.number)
     c.self.view_is (c.in_ok-bytes.ensures.put c.requires.command) (sym c.has_room.ensures ∙ c.if-not-has_room.true) c.end.ensures (omega (arith, c.len.ensures, c.in_ok-bytes.bytes.ok)))
 
 pub returns-then-not-applied-clause-logged : goal.returns-then-not-applied-clause-logged
 returns-then-not-applied-clause-logged g c =
-    logs_nothing (g.H.Disk.seen c.args.host.now 1) _ (no_place c.args.path c.args.number _ c.args.self.now _ (to_z-of_z _ _ c.ranges.number) c.self.view_is
+    logs_nothing (form.Put c.args.path c.args.number) (state_of c.args.self.now) (g.H.Disk.seen c.args.host.now 1) (no_place c.args.path c.args.number _ c.args.self.now _ (to_z-of_z _ _ c.ranges.number) c.self.view_is
     (sym c.in_ok-applied.ensures.logged ∙ c.if-not-applied.true))
 
 pub returns-in-Ok-clause-logged : goal.returns-in-Ok-clause-logged
@@ -117,5 +117,16 @@ returns-in-Ok-clause-logged g c =
     let logged = logs_it c.args.path c.args.number _ c.args.self.now _ c.in_ok-bytes.bytes.items c.end.result c.len.result (to_z-of_z _ _ c.ranges.number) c.self.view_is
     (c.in_ok-bytes.ensures.put c.requires.command) (sym c.has_room.ensures ∙ c.if-not-has_room.false) c.end.ensures (omega (arith, c.len.ensures, c.in_ok-bytes.bytes.ok))
     (sym c.in_ok-applied.ensures.logged ∙ c.if-not-applied.false) in
-    logs_one (g.H.Disk.seen c.args.host.now) (g.H.Disk.seen c.append.new.host) c.self.inside.log.file c.append.new.self.last c.in_ok-bytes.bytes.items _ c.args.path c.args.number
-    (state_of c.args.self.now) c.self.invariant.0 c.in_ok-record.ensures logged c.in-Ok.ensures.appended
+    logs_one (g.H.Disk.seen c.args.host.now) (g.H.Disk.seen c.append.new.host) c.self.inside.log.file c.self.inside.log.last c.in_ok-bytes.bytes.items _ c.args.path c.args.number
+    (state_of c.args.self.now) c.self.invariant.0 (ap (λ (s : Opened). s.place.last) c.self.view_is) c.in_ok-record.ensures logged c.in-Ok.ensures.written
+
+pub returns-clause-logged_in_doubt : goal.returns-clause-logged_in_doubt
+returns-clause-logged_in_doubt g c = λ failed.
+    let host = g.H.Disk in
+    let lt : c.self.inside.log.file < 4 = omega (arith, c.self.invariant.0) in
+    let logged = logs_it c.args.path c.args.number _ c.args.self.now _ c.in_ok-bytes.bytes.items c.end.result c.len.result (to_z-of_z _ _ c.ranges.number) c.self.view_is
+    (c.in_ok-bytes.ensures.put c.requires.command) (sym c.has_room.ensures ∙ c.if-not-has_room.false) c.end.ensures (omega (arith, c.len.ensures, c.in_ok-bytes.bytes.ok))
+    (sym c.in_ok-applied.ensures.logged ∙ c.if-not-applied.false) in
+    maybe_logs c.args.self.now (host.seen c.args.host.now) (host.seen c.append.new.host) (host.image c.args.host.now) (host.image c.append.new.host)
+    c.self.inside.log.file c.self.inside.log.last c.in_ok-bytes.bytes.items _ c.args.path c.args.number c.self.invariant.0 (ap (λ (s : Opened). s.place.last) c.self.view_is)
+    c.in_ok-record.ensures logged c.requires.stands c.append.ensures.told (λ b. g.met.H.Disk.seen_is_image c.append.new.host c.self.inside.log.file b lt) c.append.ensures.images
