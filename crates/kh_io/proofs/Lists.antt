@@ -1,18 +1,9 @@
 -- Fronts and rests of lists.
-use Rattle.std.proofs.Common.{ℕ, ◌≡◌, ◌+◌, ◌-◌, ◌<◌, ◌≤◌, max, min, inl, inr, List, ◌++◌, length, take, drop, get_or, sym, ap, ◌∙◌, arith, length-append, length-drop, refl}
-use Rattle.std.proofs.lemmas.List.{length-take, length-take-le, take-append-drop, drop-drop, get_or-take, get_or-drop, ext_get_or}
-use Rattle.std.proofs.lemmas.Grind.{common_steps, elements}
+use Rattle.std.proofs.Common.{ℕ, ◌≡◌, ◌+◌, ◌-◌, ◌<◌, ◌≤◌, max, min, inl, inr, List, length, take, drop, get_or, sym, ap, ◌∙◌, arith, length-append, length-drop, refl}
+use Rattle.std.proofs.lemmas.List.{length-take, get_or-take, get_or-drop, ext_get_or}
+use Rattle.std.proofs.lemmas.Grind.{elements}
 use Rattle.std.proofs.lemmas.Bool.{cases_lt}
 use Rattle.kh_io.specs.Disk.{put}
-
--- what stands from a place on is the n bytes there, whatever follows them in a buffer, and the rest
-pub front_off : (t n : ℕ) (xs ys : List ℕ) → t + n ≤ length xs
-    → drop t xs ≡ take n (take (t + n - t) (drop t xs) ++ ys) ++ drop (t + n) xs
-front_off t n xs ys h =
-    let e : t + n - t ≡ n = omega arith in
-    let len : length (take n (drop t xs)) ≡ n = length-take-le n (drop t xs) (rw length-drop (omega arith)) in
-    let front : take n (take n (drop t xs) ++ ys) ≡ take n (drop t xs) = grind (arith, common_steps) in
-    rw (e, front, ← drop-drop n t xs, take-append-drop) refl
 
 -- the length of bytes put into others
 pub length-put : (old : List ℕ) (at : ℕ) (bytes : List ℕ) → at ≤ length old → length (put old at bytes) ≡ max (length old) (at + length bytes)
@@ -53,9 +44,6 @@ get_behind n xs ys i same le =
 -- equal fronts, by their lengths
 pub front_lengths : (n : ℕ) (xs ys : List ℕ) → take n xs ≡ take n ys → min n (length xs) ≡ min n (length ys)
 front_lengths n xs ys same = sym (length-take n xs) ∙ ap length same ∙ length-take n ys
-
-pub rest_lengths : (n : ℕ) (xs ys : List ℕ) → drop n xs ≡ drop n ys → length xs - n ≡ length ys - n
-rest_lengths n xs ys same = sym (length-drop n xs) ∙ ap length same ∙ length-drop n ys
 
 -- a list with the bytes of another one in the place of its own from a place up to another
 pub record Overlay (at to : ℕ) (bytes other out : List ℕ) : Type 0 where

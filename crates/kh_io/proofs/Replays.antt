@@ -1,11 +1,11 @@
 -- A file, replayed call by call.
-use Rattle.std.proofs.Common.{ℕ, zero, suc, ◌≡◌, ◌+◌, ◌-◌, ◌<◌, ◌≤◌, List, [], ◌∷◌, Option, Some, None, if◌then◌else◌, Bool, true, false, ◌||◌, reverse, subst, length, take, drop, get_or, fold, sum_by, refl, sym, ap, ◌∙◌, arith, add-one}
+use Rattle.std.proofs.Common.{ℕ, zero, suc, ◌≡◌, ◌+◌, ◌-◌, ◌<◌, ◌≤◌, List, [], ◌∷◌, Option, Some, if◌then◌else◌, Bool, true, false, ◌||◌, reverse, length, take, drop, get_or, fold, sum_by, refl, sym, ap, ◌∙◌, arith, add-one}
 use Rattle.std.proofs.Math.Seq.{drop-cons}
-use Rattle.std.proofs.lemmas.List.{drop-drop, drop_all, reverse-append}
+use Rattle.std.proofs.lemmas.List.{drop-drop, reverse-append}
 use Rattle.std.proofs.lemmas.List.Folds.{list_any-append}
 use Rattle.std.specs.List.{list_any}
 use Rattle.std.proofs.lemmas.List.Sums.{sum_by-cons}
-use Rattle.kh_io.specs.FileState.{FileState, synced, after, state_after, IsImage, is_within, is_unsafe}
+use Rattle.kh_io.specs.FileState.{FileState, synced, after, state_after, IsImage, is_within}
 use Rattle.kh_io.specs.Entry.{byte_count, call_of, calls_of}
 use Rattle.kh_io.specs.Replay.{Replayed, Shows, IsFilled, AreFilled, is_loose_at}
 use Rattle.kh_io.specs.declared.files.Files.{Files}
@@ -45,14 +45,6 @@ midway_next file first entries bytes index from size old new d mid lt is step =
       leads = sym unfolds ∙ mid.leads;
     }
 
--- at the end nothing is left to be done
-pub midway_end : (file : ℕ) (first : List ℕ) (entries : List Entry) (bytes : List ℕ) (from : ℕ) (replay : Replayed) (index : ℕ)
-    → length entries ≤ index → Midway file first entries bytes index from replay → Shows (fold (after file) (synced first) (calls_of entries bytes)) replay
-midway_end file first entries bytes from replay index le mid =
-    let none : drop index entries ≡ [] = drop_all index entries le in
-    let same : mid.state ≡ fold (after file) (synced first) (calls_of entries bytes) = rw none at mid.leads in
-    subst (λ s. Shows s replay) same mid.shows
-
 or_swap : (a b : Bool) → (a || (b || false)) ≡ (b || a)
 or_swap true true = refl
 or_swap true false = refl
@@ -63,17 +55,6 @@ or_swap false false = refl
 pub list_any-reverse : {X : Type 0} (p : X → Bool) (xs : List X) → list_any p (reverse xs) ≡ list_any p xs
 list_any-reverse p [] = refl
 list_any-reverse p (x ∷ xs) = rw (reverse-append (x ∷ []) xs) (list_any-append p (reverse xs) (x ∷ []) ∙ or_swap (list_any p (reverse xs)) (p x) ∙ ap (λ b. p x || b) (list_any-reverse p xs))
-
-if_same : {A : Type 0} (b : Bool) (x : A) → (if b then x else x) ≡ x
-if_same true x = refl
-if_same false x = refl
-
--- the bytes as written
-pub as_written : (s : FileState) (r : Replayed) → Shows s r → IsFilled s None r.bytes
-as_written s r shows = record {
-  len = ap length shows.now;
-  each = λ i lt. ap (λ xs. get_or xs i 0) shows.now ∙ sym (if_same (is_unsafe s i) (get_or s.now i 0));
-}
 
 -- the bytes with another one in the place of each that isn't yet safe
 pub overwritten : (s : FileState) (r : Replayed) (loose : List (ℕ × ℕ)) (byte : ℕ) (out : List ℕ)

@@ -1,7 +1,6 @@
 -- What is told, and counts, for the crates above: over two calls, one after the other.
-use Rattle.std.proofs.Common.{ℕ, ◌≡◌, ◌-◌, ◌^◌, ◌<◌, ◌≤◌, List, ◌++◌, Option, Some, None, refl, ap, inl, inr, ◌∙◌, arith, append_assoc}
-use Rattle.std.proofs.lemmas.Bool.{cases_lt}
-use Rattle.kh_io.specs.Told.{Told, Kept, Extends, Rose}
+use Rattle.std.proofs.Common.{◌≡◌, List, ◌++◌, Option, Some, None, refl, ap, ◌∙◌, append_assoc}
+use Rattle.kh_io.specs.Told.{Told, Kept, Extends}
 
 -- what is told at exit was told at entry
 pub told_before : {A : Type 0} (P : A → A → Type 0) (old : Option A) (new : A) → Told old (Some new) P → (was : A) × (old ≡ Some was) × P was new
@@ -38,13 +37,3 @@ pub extends_both : {A : Type 0} (P Q R : List A → Type 0) (a b c : Option (Lis
     → ((more later : List A) → P more → Q later → R (more ++ later)) → Extends a c R
 extends_both P Q R a b c first second is = told_both a b c first second (λ x y z p q.
     (p.0 ++ q.0, q.1 ∙ ap (λ l. l ++ q.0) p.1 ∙ append_assoc x p.0 q.0, is p.0 q.0 p.2 q.2))
-
--- a count that rose in one of two calls rose in both
-pub rose_first : (a b c : ℕ) → Rose a b → b ≤ c → Rose a c
-rose_first a b c rose stands = λ room. let lt : a < b = rose room in omega (arith, lt, stands)
-
-pub rose_second : (a b c : ℕ) → a ≤ b → Rose b c → b ≤ c → Rose a c
-rose_second a b c stands rose stands_too = λ room. elim (cases_lt b (2 ^ 64 - 1)) [
-  | inl lt ↦ (let more : b < c = rose lt in omega (arith, more, stands))
-  | inr full ↦ omega (arith, full, stands_too, room)
-]
