@@ -6,7 +6,7 @@ use Rattle.kh_io.specs.Disk.{file_of, put, Torn, IsSafe, Stays}
 use Rattle.kh_io.specs.Told.{Told}
 use Rattle.kh_io.proofs.Telling.{told_before, told_both}
 use Rattle.kh_log.specs.Records.{open_gate, Content, records_of, log_of, span, IsClosedAt}
-use Rattle.kh_log.specs.Log.{Place, Holds, ImagesAre, moved, begun_at, EndsAt, IsBeforeOrAfter, IsGroup, Appending, Writing}
+use Rattle.kh_log.specs.Log.{Place, Holds, ImagesAre, moved, begun_at, EndsAt, IsBeforeOrAfter, IsGroup, Appending, Writing, with_records}
 use Rattle.std.proofs.lemmas.List.{take_all}
 use Rattle.kh_log.proofs.Records.{span-append, length-front}
 use Rattle.kh_log.proofs.Append.{ends_at, nothing_split, Staged, group_of, torn_behind, written_behind, torn_gate, written_gate, put_gate}
@@ -122,6 +122,11 @@ is_group more items body are logged same =
 
 pub length_group : (more : List (List ℕ)) (body : List ℕ) → IsGroup more body → length body ≡ span more
 length_group more body group = (group_of more body group.are group.log).long
+
+-- what a group leaves where it stands behind a log
+pub with_group : (last : ℕ) (more : List (List ℕ)) (body was : List ℕ) → IsGroup more body → with_records last more was ≡ put was last (open_gate ∷ body)
+with_group last [] body was group = absurd (cc (group.log))
+with_group last (r ∷ rs) body was group = ap (λ (bytes : List ℕ). put was last bytes) group.log
 
 -- after an append of a log whose records are all read
 pub holds_after : (log : Place) (more : List (List ℕ)) (bytes : List ℕ) (rs : List (List ℕ)) → log.read ≡ log.records → log.records ≡ length rs → log.last ≡ span rs

@@ -1,7 +1,7 @@
 -- A log that is open: where it stands in its file, and what an append leaves.
-use Rattle.std.specs.Prelude.{◌≡◌, ◌≢◌, ◌⊎◌, ℕ, ◌+◌, ◌<◌, ◌≤◌, List, ◌∷◌, ◌++◌, length, take, Option, None, IfSome}
+use Rattle.std.specs.Prelude.{◌≡◌, ◌≢◌, ◌⊎◌, ℕ, ◌+◌, ◌<◌, ◌≤◌, List, [], ◌∷◌, ◌++◌, length, take, Option, None, IfSome}
 use Rattle.kh_io.specs.declared.files.Files.{Files}
-use Rattle.kh_io.specs.Disk.{file_of, Torn, AreImages}
+use Rattle.kh_io.specs.Disk.{file_of, put, Torn, AreImages}
 use Rattle.kh_log.specs.Records.{open_gate, log_of, Content, content_of, records_of, lacking_in, span, IsClosedAt}
 
 -- where a log stands in its file
@@ -59,6 +59,12 @@ pub record EndsAt (last : ℕ) (rs : List (List ℕ)) (bytes : List ℕ) : Type 
   pub content : content_of bytes ≡ whole rs
   pub place : last ≡ span rs
   pub gate : IsClosedAt last bytes
+
+-- The bytes of a log with these records behind those that it had: they stand from its last gate on, which is at this place, and behind them
+-- stands `00`. No other byte is changed.
+abbrev pub with_records : ℕ → List (List ℕ) → List ℕ → List ℕ
+with_records last [] log = log
+with_records last (r ∷ rs) log = put log last (log_of (r ∷ rs))
 
 -- these records, or these and more behind them
 abbrev pub IsBeforeOrAfter : (rs more : List (List ℕ)) → List ℕ → Type 0

@@ -1,9 +1,9 @@
 //! The log.
 ghost use Rattle.std.specs.Prelude.{◌≡◌, ◌≤◌, ◌<◌, ◌+◌, ◌^◌, ◌++◌, ℕ, List, [], length, drop, slice_get, Some, IfSome, IfNone, IfOk, OnOk, OnErr, IsErrOf};
 ghost use Rattle.kh_io.specs.Told.{Told, Kept, Extends, Rose};
-ghost use Rattle.kh_io.specs.Disk.{put, FilesStay, OthersStay, IsSafe, LeavesOnly};
+ghost use Rattle.kh_io.specs.Disk.{FilesStay, OthersStay, IsSafe, LeavesOnly};
 ghost use Rattle.kh_log.specs.Records.{length_of, records_of, lacking_in, log_of, IsClosedAt};
-ghost use Rattle.kh_log.specs.Log.{Place, Holds, EndsAt, IsBeforeOrAfter, Appending, Reading, ImagesAre, moved, passed, begun_at};
+ghost use Rattle.kh_log.specs.Log.{Place, Holds, EndsAt, IsBeforeOrAfter, Appending, Reading, ImagesAre, moved, passed, begun_at, with_records};
 ghost use Rattle.kh_log.specs.Calls.{Grows, AreMade, FailAmong, open_calls, record_reads};
 
 use crate::durable::open_behind;
@@ -174,8 +174,7 @@ impl Log {
         requires closed { ImagesAre (H.seen host.old self.old.file) (H.image host.old self.old.file) (IsClosedAt self.old.last) }
         ensures appended { OnOk result (Told (H.seen host.old self.old.file) (H.seen host.new self.old.file)
             (λ was now. EndsAt self.new.last (records_of was ++ r.now) now)) }
-        // They stand from the last gate on, with `00` behind them, and the file has no other byte than before further on.
-        ensures written { OnOk result (Told (H.seen host.old self.old.file) (H.seen host.new self.old.file) (λ was now. now ≡ put was self.old.last (log_of r.now))) }
+        ensures written { OnOk result (Told (H.seen host.old self.old.file) (H.seen host.new self.old.file) (λ was now. now ≡ with_records self.old.last r.now was)) }
         ensures left { OnOk result (IfSome (H.seen host.new self.old.file) (Holds self.new)) }
         ensures safe { OnOk result (IsSafe (H.seen host.new self.old.file) (H.image host.new self.old.file)) }
         ensures moved { OnOk result (self.new ≡ moved self.old r.now) }

@@ -1,10 +1,11 @@
-use Rattle.std.proofs.Common.{◌≡◌, ℕ, ◌+◌, ◌*◌, ◌<◌, ◌≤◌, ◌^◌, List, ◌++◌, length, sym, ap, subst, ◌∙◌, arith}
+use Rattle.std.proofs.Common.{◌≡◌, ℕ, ◌+◌, ◌*◌, ◌<◌, ◌≤◌, ◌^◌, List, ◌∷◌, ◌++◌, length, sym, ap, subst, ◌∙◌, arith}
 use Rattle.std.specs.Prelude.{IfSome}
 use Rattle.kh_io.specs.Disk.{put, LeavesOnly}
 use Rattle.kh_io.specs.Told.{Told}
-use Rattle.kh_log.specs.Records.{log_of, span, records_of}
-use Rattle.kh_log.specs.Log.{Place, IsGroup, Holds, EndsAt, Appending}
-use Rattle.kh_log.proofs.Opening.{start_of, told_ends, told_holds, is_group, length_group, span_least, moved_is}
+use Rattle.kh_io.proofs.Telling.{told_map}
+use Rattle.kh_log.specs.Records.{open_gate, log_of, span, records_of}
+use Rattle.kh_log.specs.Log.{Place, IsGroup, Holds, EndsAt, Appending, with_records}
+use Rattle.kh_log.proofs.Opening.{start_of, told_ends, told_holds, is_group, length_group, with_group, span_least, moved_is}
 use Rattle.kh_log.proofs.log.Log.append.Goals as goal
 
 pub open_behind-requires-clause-start : goal.open_behind-requires-clause-start
@@ -50,9 +51,13 @@ invariant_of-self g c =
 pub returns-clause-written : goal.returns-clause-written
 returns-clause-written g c =
     let group = is_group c.args.r.now c.r.inside.bytes.items c.deref.result.now c.r.view_is c.r.invariant.0 c.deref.ensures.value in
-    let P : Place → Type 0 = λ p. Told (g.H.Disk.seen c.args.host.now p.file) (g.H.Disk.seen c.open_behind.new.disk p.file) (λ was now. now ≡ put was p.last (log_of c.args.r.now)) in
-    subst P c.self.view_is (subst (λ (b : List ℕ). Told (g.H.Disk.seen c.args.host.now c.self.inside.file) (g.H.Disk.seen c.open_behind.new.disk c.self.inside.file)
-    (λ was now. now ≡ put was c.self.inside.last b)) (sym group.log) c.in_ok-open_behind.ensures.written)
+    let P : Place → Type 0 = λ p. Told (g.H.Disk.seen c.args.host.now p.file) (g.H.Disk.seen c.open_behind.new.disk p.file)
+    (λ was now. now ≡ put was p.last (open_gate ∷ c.deref.result.now)) in
+    let here : Told (g.H.Disk.seen c.args.host.now c.args.self.now.file) (g.H.Disk.seen c.open_behind.new.disk c.args.self.now.file)
+    (λ was now. now ≡ put was c.args.self.now.last (open_gate ∷ c.deref.result.now)) = subst P c.self.view_is c.in_ok-open_behind.ensures.written in
+    let later : (was now : List ℕ) → now ≡ put was c.args.self.now.last (open_gate ∷ c.deref.result.now) → now ≡ with_records c.args.self.now.last c.args.r.now was =
+    λ was now is. is ∙ sym (with_group c.args.self.now.last c.args.r.now c.deref.result.now was group) in
+    told_map (g.H.Disk.seen c.args.host.now c.args.self.now.file) (g.H.Disk.seen c.open_behind.new.disk c.args.self.now.file) here later
 
 pub returns-clause-left : goal.returns-clause-left
 returns-clause-left g c =
