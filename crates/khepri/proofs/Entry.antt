@@ -6,8 +6,8 @@ use Rattle.kh_io.specs.declared.files.Files.{Files}
 use Rattle.kh_io.specs.Call.{Call}
 use Rattle.kh_io.specs.Told.{Told, Kept, Extends, IsFrontOf}
 use Rattle.kh_io.specs.Disk.{file_of, AreImages, TellsFiles, FilesStay, LeavesOnly}
-use Rattle.kh_io.proofs.Moments.{started, both, weakened}
-use Rattle.kh_io.proofs.Telling.{told_same, told_map, told_both, kept_both, extends_both}
+use Rattle.kh_io.proofs.Moments.{both, weakened}
+use Rattle.kh_io.proofs.Telling.{told_map, told_both, kept_both, extends_both}
 use Rattle.kh_log.specs.Records.{Content}
 use Rattle.kh_log.proofs.Records.{content_of-short}
 use Rattle.kh_read.specs.declared.form.Form.{Form}
@@ -90,10 +90,15 @@ crash_opened first seen image files forms stamp m0 m1 m2 past mid since are reco
 begun_then : (P : List ℕ → List ℕ → Type 0) (a b c : Option (List ℕ)) → Told a b Begun → Told b c (InTurn AsOpened P) → Told a c (InTurn Begun P)
 begun_then P a b c begun then = told_both a b c begun then (λ x y z p q. (q.0, subst (Begun x) (sym q.1) p, q.2))
 
-as_it_was : (was between now : List ℕ) → Begun was between → (now ≡ between) ⊎ IsShort between → (now ≡ was) ⊎ IsShort was
+-- a file begun anew holds no log as well
+one_is_short : IsShort (0 ∷ [])
+one_is_short = omega arith
+
+as_it_was : (was between now : List ℕ) → Begun was between → (now ≡ between) ⊎ (IsShort between × IsShort now) → (now ≡ was) ⊎ (IsShort was × IsShort now)
 as_it_was was between now (inl found) (inl same) = inl (same ∙ found.1)
-as_it_was was between now (inl found) (inr short) = inr (subst IsShort found.1 short)
-as_it_was was between now (inr begun) left = inr begun.0
+as_it_was was between now (inl found) (inr short) = inr (subst IsShort found.1 short.0, short.1)
+as_it_was was between now (inr begun) (inl same) = inr (begun.0, subst IsShort (sym (same ∙ begun.1)) one_is_short)
+as_it_was was between now (inr begun) (inr short) = inr (begun.0, short.1)
 
 -- what was answered
 answered_opened : (first : State) (l0 l1 l2 : Option (List ℕ)) (forms : List Form) (given : List ℕ) → Told l0 l1 Begun
@@ -118,12 +123,9 @@ ran_opened first status seen image image' files input rest given stamp m0 m1 m2 
   done = λ is. let done = ran.done is in (answered_opened first l0 l1 l2 ran.forms given begun done.0, done.1);
   syntax = λ is. answered_opened first l0 l1 l2 ran.forms given begun (ran.syntax is);
   too_long = λ is. answered_opened first l0 l1 l2 ran.forms given begun (ran.too_long is);
-  read_fault = λ is. let fault = ran.read_fault is in (fault.0, fault.1, fault.2, fault.3, answered_opened first l0 l1 l2 fault.1 given begun fault.4);
+  read_fault = λ is. let fault = ran.read_fault is in (fault.0, fault.1, fault.2, fault.3, fault.4, answered_opened first l0 l1 l2 fault.1 given begun fault.5);
   write_fault = λ is. begun_then (OneBehind first ran.forms given) l0 l1 l2 begun (ran.write_fault is);
-  no_memory = λ is. elim (ran.no_memory is) [
-    | inl none ↦ inr (told_both l0 l1 l2 begun none.1 (λ x y z p same. (y, p, none_behind first [] ran.forms given none.0 y z same)))
-    | inr part ↦ inr (begun_then (OneBehind first ran.forms given) l0 l1 l2 begun part)
-  ];
+  no_memory = λ is. begun_then (OneBehind first ran.forms given) l0 l1 l2 begun (ran.no_memory is);
   disk_fault = λ is. elim (ran.disk_fault is) [
     | inl none ↦ inl (none.0, none.1, told_both l0 l1 l2 begun none.2 as_it_was)
     | inr doubt ↦ inr (record {
@@ -176,8 +178,8 @@ runs_opened first status seen seen' seen2 image image' left0 left1 left2 sink0 s
 
 -- ---- damage
 
-kept_unless : {P : List ℕ → Type 0} (old new : Option (List ℕ)) → Told old new (λ was now. (now ≡ was) ⊎ P was) → ((was : List ℕ) → old ≡ Some was → P was → ⊥) → Kept old new
-kept_unless (Some was) (Some now) told other = elim told [ inl same ↦ same | inr p ↦ absurd (other was refl p) ]
+kept_unless : {P : List ℕ → List ℕ → Type 0} (old new : Option (List ℕ)) → Told old new (λ was now. (now ≡ was) ⊎ P was now) → ((was now : List ℕ) → old ≡ Some was → P was now → ⊥) → Kept old new
+kept_unless (Some was) (Some now) told other = elim told [ inl same ↦ same | inr p ↦ absurd (other was now refl p) ]
 kept_unless None (Some now) told other = absurd told
 kept_unless (Some was) None told other = tt
 kept_unless None None told other = tt
@@ -186,7 +188,7 @@ kept_unless None None told other = tt
 damaged_reads : (seen seen' : ℕ → Option (List ℕ)) (files : Files) (file offset : ℕ) → AreSeen seen files → Recovers files (Damaged file offset) → ReadsAsBefore seen seen'
     → (this : ℕ) → this < 4 → Kept (seen this) (seen' this)
 damaged_reads seen seen' files file offset are recovers reads this lt =
-    kept_unless (seen this) (seen' this) (reads this lt) (λ was same short.
+    kept_unless (seen this) (seen' this) (reads this lt) (λ was now same short.
     let own : IsShort files.l0 = subst IsShort (some_same was files.l0 (sym same ∙ ap seen short.0 ∙ are 1 (omega arith))) short.1 in
     apart (recovery_one files (Damaged file offset) (Recovered empty) recovers (short_recovers files own)))
   where
@@ -246,7 +248,7 @@ finds_damage file offset seen seen' seen2 image1 image' damaged stay = record {
 ran_nothing : (first : State) (status : ℕ) (seen : ℕ → Option (List ℕ)) (image image' : ℕ → List ℕ → Type 0) (files : Files) (input : List ℕ)
     (stamp m0 m1 : ℕ) (past since : ℕ → Files → ℕ → Type 0) (l0 l1 : Option (List ℕ)) → AreSeen seen files → Recovers files (Recovered first)
     → LeavesOnly m0 m1 past since (Opening seen image stamp) → (status ≡ 5) ⊎ (status ≡ 6)
-    → Told l0 l1 (λ was now. (now ≡ was) ⊎ IsShort was) → (status ≡ 6 → Kept l0 l1 ⊎ Told l0 l1 Begun)
+    → Told l0 l1 (λ was now. (now ≡ was) ⊎ (IsShort was × IsShort now)) → (status ≡ 6 → Told l0 l1 Begun)
     → Ran first status (AtEntry image stamp) Begun (record { stamp = stamp; from = m0; to = m1; past = past; since = since; was = l0; now = l1 }) image' input input []
 ran_nothing first status seen image image' files input stamp m0 m1 past since l0 l1 are recovers opening why reads out =
     let script = script_exists _ _ in
@@ -262,10 +264,7 @@ ran_nothing first status seen image image' files input stamp m0 m1 past since l0
       read_fault = λ e. absurd (elim why [ inl f ↦ omega arith | inr f ↦ omega arith ]);
       write_fault = λ e. absurd (elim why [ inl f ↦ omega arith | inr f ↦ omega arith ]);
       disk_fault = λ e. inl (refl, refl, reads);
-      no_memory = λ e. elim (out e) [
-        | inl kept ↦ inl (refl, kept)
-        | inr begun ↦ inr (told_map l0 l1 begun (λ was now is. (now, is, none_behind first [] script.0 [] refl now now refl)))
-      ];
+      no_memory = λ e. told_map l0 l1 (out e) (λ was now is. (now, is, none_behind first [] script.0 [] refl now now refl));
       crash = weakened opening (opening_keeps seen image stamp files first script.0 are recovers);
       last = λ e. absurd (elim why [ inl f ↦ omega arith | inr f ↦ omega arith ]);
     }
@@ -277,7 +276,7 @@ FailsOver journal journal' files = (file offset : ℕ) → Recovers files (Damag
 runs_nothing : (found : Recovery) (status : ℕ) (seen seen' : ℕ → Option (List ℕ)) (image image' : ℕ → List ℕ → Type 0) (files : Files)
     (left0 left1 sink0 sink1 : Option (List ℕ)) (journal0 journal1 : Option (List Call)) (stamp m0 m1 : ℕ) (past since : ℕ → Files → ℕ → Type 0) → AreSeen seen files → Recovers files found
     → ReadsAsBefore seen seen' → LeavesOnly m0 m1 past since (Opening seen image stamp) → Kept left0 left1 → Kept sink0 sink1 → (status ≡ 5) ⊎ (status ≡ 6)
-    → (status ≡ 5 → FailsOver journal0 journal1 files) → (status ≡ 6 → Kept (seen 1) (seen' 1) ⊎ Told (seen 1) (seen' 1) Begun)
+    → (status ≡ 5 → FailsOver journal0 journal1 files) → (status ≡ 6 → Told (seen 1) (seen' 1) Begun)
     → Runs found status files (record { stamp = stamp; from = m0; to = m1; past = past; since = since; was = seen 1; now = seen' 1 }) image image' seen seen' left0 left1 sink0 sink1 journal0 journal1
 runs_nothing (Recovered first) status seen seen' image image' files left0 left1 sink0 sink1 journal0 journal1 stamp m0 m1 past since are recovers reads opening input sink why fails out =
     told_map left0 left1 input (λ a b same. told_map sink0 sink1 sink (λ x y same'. (
@@ -285,7 +284,7 @@ runs_nothing (Recovered first) status seen seen' image image' files left0 left1 
       same' ∙ sym (append-nil x),
       subst (λ (r : List ℕ). Ran first status (AtEntry image stamp) Begun (record { stamp = stamp; from = m0; to = m1; past = past; since = since; was = seen 1; now = seen' 1 }) image' a r []) (sym same)
           (ran_nothing first status seen image image' files a stamp m0 m1 past since (seen 1) (seen' 1) are recovers opening why
-          (told_map (seen 1) (seen' 1) (reads 1 (omega arith)) (λ was now is. elim is [ inl stays ↦ inl stays | inr short ↦ inr short.1 ])) out),
+          (told_map (seen 1) (seen' 1) (reads 1 (omega arith)) (λ was now is. elim is [ inl stays ↦ inl stays | inr short ↦ inr (short.1, short.2) ])) out),
     )))
 runs_nothing (Damaged file offset) status seen seen' image image' files left0 left1 sink0 sink1 journal0 journal1 stamp m0 m1 past since are recovers reads opening input sink why fails out = record {
   line = told_map sink0 sink1 sink (λ x y same'. (
@@ -305,7 +304,7 @@ runs_nothing (Damaged file offset) status seen seen' image image' files left0 le
 runs_unopened : (status : ℕ) (seen seen' : ℕ → Option (List ℕ)) (image image' : ℕ → List ℕ → Type 0)
     (left0 left1 sink0 sink1 : Option (List ℕ)) (journal0 journal1 : Option (List Call)) (stamp m0 m1 : ℕ) (past since : ℕ → Files → ℕ → Type 0)
     → ReadsAsBefore seen seen' → LeavesOnly m0 m1 past since (Opening seen image stamp) → Kept left0 left1 → Kept sink0 sink1 → (status ≡ 5) ⊎ (status ≡ 6)
-    → FilesTold seen seen' (λ files. status ≡ 5 → FailsOver journal0 journal1 files) → (status ≡ 6 → Kept (seen 1) (seen' 1) ⊎ Told (seen 1) (seen' 1) Begun)
+    → FilesTold seen seen' (λ files. status ≡ 5 → FailsOver journal0 journal1 files) → (status ≡ 6 → Told (seen 1) (seen' 1) Begun)
     → FilesTold seen seen' (λ files. (found : Recovery) → Recovers files found
     → Runs found status files (record { stamp = stamp; from = m0; to = m1; past = past; since = since; was = seen 1; now = seen' 1 }) image image' seen seen' left0 left1 sink0 sink1 journal0 journal1)
 runs_unopened status seen seen' image image' left0 left1 sink0 sink1 journal0 journal1 stamp m0 m1 past since reads opening input sink why fails out = record {
@@ -329,22 +328,9 @@ runs_faulted seen seen' image image' left0 left1 sink0 sink1 journal0 journal1 s
 pub runs_out : (seen seen' : ℕ → Option (List ℕ)) (image image' : ℕ → List ℕ → Type 0)
     (left0 left1 sink0 sink1 : Option (List ℕ)) (journal0 journal1 : Option (List Call)) (stamp m0 m1 : ℕ) (past since : ℕ → Files → ℕ → Type 0)
     → ReadsAsBefore seen seen' → LeavesOnly m0 m1 past since (Opening seen image stamp) → Kept left0 left1 → Kept sink0 sink1
-    → Kept (seen 1) (seen' 1) ⊎ Told (seen 1) (seen' 1) Begun
+    → Told (seen 1) (seen' 1) Begun
     → FilesTold seen seen' (λ files. (found : Recovery) → Recovers files found
     → Runs found 6 files (record { stamp = stamp; from = m0; to = m1; past = past; since = since; was = seen 1; now = seen' 1 }) image image' seen seen' left0 left1 sink0 sink1 journal0 journal1)
 runs_out seen seen' image image' left0 left1 sink0 sink1 journal0 journal1 stamp m0 m1 past since reads opening input sink log =
     runs_unopened 6 seen seen' image image' left0 left1 sink0 sink1 journal0 journal1 stamp m0 m1 past since reads opening input sink (inr refl)
     (record { told = λ tells. let files = files_there seen (reads_tell seen seen' reads tells) in (files.0, files.1, λ e. absurd (omega (arith, e))) }) (λ e. log)
-
-reads_same : (seen : ℕ → Option (List ℕ)) → ReadsAsBefore seen seen
-reads_same seen file lt = told_same _ (seen file) (λ bytes. inl refl)
-
--- memory ran out before anything was done
-pub runs_untouched : (seen : ℕ → Option (List ℕ)) (image : ℕ → List ℕ → Type 0) (left sink : Option (List ℕ)) (journal : Option (List Call)) (stamp moment : ℕ) (since : ℕ → Files → ℕ → Type 0)
-    → ((files : Files) (s : ℕ) → since moment files s → AreImages image files × (s ≡ stamp))
-    → FilesTold seen seen (λ files. (found : Recovery) → Recovers files found
-    → Runs found 6 files (record { stamp = stamp; from = moment; to = moment; past = since; since = since; was = seen 1; now = seen 1 }) image image seen seen left left sink sink journal journal)
-runs_untouched seen image left sink journal stamp moment since now =
-    runs_out seen seen image image left left sink sink journal journal stamp moment moment since since (reads_same seen)
-    (started moment since (λ files s there. let is = now files s there in record { stamp = is.1; log = inl (is.0 1 (omega arith)); others = λ file lt other. is.0 file lt }))
-    (told_same _ left (λ bytes. refl)) (told_same _ sink (λ bytes. refl)) (inl (told_same _ (seen 1) (λ bytes. refl)))

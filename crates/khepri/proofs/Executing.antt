@@ -3,11 +3,11 @@ use Rattle.std.proofs.Common.{ℕ, ℤ, ◌≡◌, ◌+◌, nat_le, true, false,
 use Rattle.std.specs.Prelude.{IfSome, ◌&&◌}
 use Rattle.kh_io.specs.declared.files.Files.{Files}
 use Rattle.kh_io.specs.Told.{Told}
-use Rattle.kh_io.specs.Disk.{put, AreImages, IsSafe, LeavesOnly}
+use Rattle.kh_io.specs.Disk.{AreImages, IsSafe, LeavesOnly}
 use Rattle.kh_io.proofs.Moments.{started, weakened}
 use Rattle.kh_io.proofs.Telling.{told_map, told_same}
-use Rattle.kh_log.specs.Records.{Content, content_of, records_of, log_of}
-use Rattle.kh_log.specs.Log.{Place, Holds, moved, ImagesAre, EndsAt, IsBeforeOrAfter, Appending, whole}
+use Rattle.kh_log.specs.Records.{Content, content_of, records_of}
+use Rattle.kh_log.specs.Log.{Place, Holds, moved, ImagesAre, EndsAt, IsBeforeOrAfter, Appending, whole, with_records}
 use Rattle.kh_log.proofs.Opening.{settled}
 use Rattle.kh_term.specs.declared.name.Name.{Name}
 use Rattle.kh_read.specs.declared.form.Form.{Form}
@@ -15,7 +15,7 @@ use Rattle.kh_read.specs.declared.form.Form.TheVariants as form
 use Rattle.khepri.specs.Tree.{Node}
 use Rattle.khepri.specs.Machine.{is_logged, after}
 use Rattle.khepri.specs.Command.{put_bytes, IsPut}
-use Rattle.khepri.specs.State.{State, empty, log_limit, log_has_room, store_logs, records_logged, with_records, log_with, store_after}
+use Rattle.khepri.specs.State.{State, empty, log_limit, log_has_room, store_logs, records_logged, log_with, store_after}
 use Rattle.khepri.specs.Recovery.{Recovery, Recovered, Replays, ends, applies, ReplaysUnless, Recovers}
 use Rattle.khepri.specs.Store.{Opened, state_of, Stands, OthersLeft, GainsRecords, MaybeLogs, Executing}
 use Rattle.khepri.proofs.Recovery.{replays_then}
@@ -158,21 +158,18 @@ logs_it path number sent store inside bytes at len is same packed room last long
     }
 
 -- its record
-record_logged : (path : List Name) (number : ℤ) (s : State) (bytes : List ℕ) → IsLogged path number s bytes → records_logged (form.Put path number) s ≡ put_bytes path number ∷ []
-record_logged path number s bytes logged = ap (λ b. if b then put_bytes path number ∷ [] else []) logged.logs
-
 record_is : (path : List Name) (number : ℤ) (s : State) (bytes : List ℕ) (rs : List (List ℕ)) → rs ≡ bytes ∷ [] → IsLogged path number s bytes
-    → rs ≡ put_bytes path number ∷ []
-record_is path number s bytes rs same logged = same ∙ ap (λ (b : List ℕ). b ∷ []) logged.put.packed
+    → rs ≡ records_logged (form.Put path number) s
+record_is path number s bytes rs same logged =
+    same ∙ ap (λ (b : List ℕ). b ∷ []) logged.put.packed ∙ sym (ap (λ b. if b then put_bytes path number ∷ [] else []) logged.logs)
 
 -- stands in the log once it was written
 pub logs_one : (seen seen' : ℕ → Option (List ℕ)) (file last : ℕ) (bytes : List ℕ) (rs : List (List ℕ)) (path : List Name) (number : ℤ) (s : State) → file ≡ 1 → last ≡ s.span
-    → rs ≡ bytes ∷ [] → IsLogged path number s bytes → Told (seen file) (seen' file) (λ was now. now ≡ put was last (log_of rs))
+    → rs ≡ bytes ∷ [] → IsLogged path number s bytes → Told (seen file) (seen' file) (λ was now. now ≡ with_records last rs was)
     → Told (seen 1) (seen' 1) (λ was now. now ≡ log_with (form.Put path number) s was)
 logs_one seen seen' file last bytes rs path number s one place same logged written =
-    told_map (seen 1) (seen' 1) (subst (λ f. Told (seen f) (seen' f) (λ was now. now ≡ put was last (log_of rs))) one written)
-    (λ was now is. is ∙ ap (λ n. put was n (log_of rs)) place ∙ ap (λ (l : List (List ℕ)). put was s.span (log_of l)) (record_is path number s bytes rs same logged)
-    ∙ ap (λ (l : List (List ℕ)). with_records s.span l was) (sym (record_logged path number s bytes logged)))
+    told_map (seen 1) (seen' 1) (subst (λ f. Told (seen f) (seen' f) (λ was now. now ≡ with_records last rs was)) one written)
+    (λ was now is. is ∙ ap (λ n. with_records n rs was) place ∙ ap (λ (l : List (List ℕ)). with_records s.span l was) (record_is path number s bytes rs same logged))
 
 -- and may stand there where the disk failed
 pub maybe_logs : (store : Opened) (seen seen' : ℕ → Option (List ℕ)) (image image' : ℕ → List ℕ → Type 0) (file last : ℕ) (bytes : List ℕ) (rs : List (List ℕ)) (path : List Name) (number : ℤ)
@@ -184,15 +181,15 @@ maybe_logs store seen seen' image image' file last bytes rs path number one plac
     maybe (seen 1) (seen' 1) stands (rw one at told) (rw one at law) (rw (one, place) at left)
   where
     is : rs ≡ records_logged (form.Put path number) (state_of store)
-    is = record_is path number (state_of store) bytes rs same logged ∙ sym (record_logged path number (state_of store) bytes logged)
+    is = record_is path number (state_of store) bytes rs same logged
 
     maybe : (was now : Option (List ℕ)) → Stands store was (image 1) → Told was now (λ was now. Unit {0}) → ((b : List ℕ) → now ≡ Some b → image' 1 b)
         → ((had : List (List ℕ)) → ((b : List ℕ) → image 1 b → EndsAt store.place.last had b) → (b : List ℕ) → image' 1 b → IsBeforeOrAfter had rs b)
         → Told was now (MaybeLogs (form.Put path number) (state_of store))
     maybe (Some was) (Some now) stands told law left =
         elim (left (records_of was) (settled store.place (Some was) was refl stands.found stands.closed stands.safe) now (law now refl)) [
-          | inl before ↦ inl (ap (λ (k : Content). k.records) before)
-          | inr behind ↦ inr (ap (λ (k : Content). k.records) behind ∙ ap (λ (l : List (List ℕ)). records_of was ++ l) is)
+          | inl before ↦ inl before
+          | inr behind ↦ inr (behind ∙ ap (λ (l : List (List ℕ)). whole (records_of was ++ l)) is)
         ]
     maybe None (Some now) stands told law left = absurd told
     maybe was None stands told law left = tt

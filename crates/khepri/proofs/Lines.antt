@@ -119,7 +119,7 @@ none_behind old forms others given text was now log = record {
   front = (others, ap (λ (fs : List Form). fs ++ others) (sym (append-nil forms)));
   part = [];
   text = text ∙ sym (append-nil (text_of forms old));
-  begun = ([], refl);
+  reply = ([], refl);
   log = log ∙ ap (λ (fs : List Form). log_after fs old was) (sym (append-nil forms));
 }
 
@@ -139,7 +139,7 @@ one_behind old mid forms form given part is text front was now log = record {
   front = ([], sym (append-nil (forms ++ form ∷ [])));
   part = part;
   text = ap (λ (t : List ℕ). t ++ part) text;
-  begun = (
+  reply = (
     front.0,
     append-nil (shown_line (store_reply form (state_after forms old))) ∙ ap (λ (t : State). shown_line (store_reply form t)) (sym is) ∙ front.1,
   );

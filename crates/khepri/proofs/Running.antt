@@ -266,7 +266,7 @@ behind_both first state forms others given more is text was between now log behi
   part = behind.part;
   text = ap (λ (t : List ℕ). given ++ t) behind.text ∙ sym (append_assoc given (text_of behind.answered state) behind.part)
       ∙ ap (λ (t : List ℕ). t ++ behind.part) (text_behind first state forms behind.answered given (text_of behind.answered state) is text refl);
-  begun = subst (λ (t : State). IsFrontOf behind.part (text_of behind.last t)) (state_behind first state forms behind.answered is) behind.begun;
+  reply = subst (λ (t : State). IsFrontOf behind.part (text_of behind.last t)) (state_behind first state forms behind.answered is) behind.reply;
   log = behind.log ∙ log_behind first state forms (behind.answered ++ behind.last) was between is log
       ∙ ap (λ (fs : List Form). log_after fs first was) (sym (append_assoc forms behind.answered behind.last));
 }
@@ -357,7 +357,7 @@ part_answered first span forms others given part = told_map span.was span.now pa
     );
     part = behind.part;
     text = behind.text;
-    begun = behind.begun;
+    reply = behind.reply;
     log = behind.log;
   },
 ))
@@ -377,7 +377,7 @@ ran_part status first span image all rest given forms whole front log crash why 
   read_fault = λ e. absurd (elim why [ inl is ↦ omega arith | inr is ↦ omega arith ]);
   write_fault = λ e. part_answered first span forms whole.0 given log;
   disk_fault = λ e. absurd (elim why [ inl is ↦ omega arith | inr is ↦ omega arith ]);
-  no_memory = λ e. inr (part_answered first span forms whole.0 given log);
+  no_memory = λ e. part_answered first span forms whole.0 given log;
   crash = ran_crash first forms whole.0 span crash;
   last = λ e. absurd (elim why [ inl is ↦ omega arith | inr is ↦ omega arith ]);
 }
@@ -494,7 +494,7 @@ ran_to_read_fault first state span image input all rest given at few is served r
       done = λ e. absurd (omega arith);
       syntax = λ e. absurd (omega arith);
       too_long = λ e. absurd (omega arith);
-      read_fault = λ e. (input, served.forms, is, script_so_far input at served.forms served.reads rests, answered first span served.forms given served.text served.log);
+      read_fault = λ e. (input, served.forms, is, script_so_far input at served.forms served.reads rests, (whole.0, refl), answered first span served.forms given served.text served.log);
       write_fault = λ e. absurd (omega arith);
       disk_fault = λ e. absurd (omega arith);
       no_memory = λ e. absurd (omega arith);

@@ -53,7 +53,7 @@ abbrev pub AtEntry : (ℕ → List ℕ → Type 0) → ℕ → Files → ℕ →
 AtEntry image given files s = AreImages image files × (s ≡ given)
 
 -- All of these commands were answered, and no others: the bytes given are the replies to them, and the log, once it was begun, gained their
--- records, and is else as it was.
+-- records, and is otherwise as it was.
 pub record Answered (first : State) (begun : List ℕ → List ℕ → Type 0) (was now : Option (List ℕ)) (forms : List Form) (given : List ℕ) : Type 0 where
   pub text : given ≡ text_of forms first
   pub log : Told was now (InTurn begun (λ log now. now ≡ log_after forms first log))
@@ -98,14 +98,14 @@ pub record Ran (first : State) (status : ℕ) (entry : Files → ℕ → Type 0)
   pub too_long : status ≡ 9 → Answered first begun span.was span.now forms given
   -- 3: the lines that had come whole were answered
   pub read_fault : status ≡ 3 → (taken : List ℕ) × (come : List Form) × (input ≡ taken ++ rest) × FrontScript taken come Unfinished
-      × Answered first begun span.was span.now come given
-  -- 4: some commands were answered, and at most one more was executed
+      × IsFrontOf come forms × Answered first begun span.was span.now come given
+  -- 4 and 6: some commands were answered, and at most one more was executed
   pub write_fault : status ≡ 4 → PartAnswered first begun span.was span.now forms given
+  pub no_memory : status ≡ 6 → PartAnswered first begun span.was span.now forms given
   -- 5: nothing was taken nor given, and the log is as it was, if there was one; or one command that is logged is in doubt, and those before
   -- it were answered
-  pub disk_fault : status ≡ 5 → ((rest ≡ input) × (given ≡ []) × Told span.was span.now (λ was now. (now ≡ was) ⊎ IsShort was)) ⊎ OneInDoubt first entry begun span forms given
-  -- 6: as at 4, or nothing was given and the log is as it was
-  pub no_memory : status ≡ 6 → ((given ≡ []) × Kept span.was span.now) ⊎ PartAnswered first begun span.was span.now forms given
+  pub disk_fault : status ≡ 5 → ((rest ≡ input) × (given ≡ []) × Told span.was span.now (λ was now. (now ≡ was) ⊎ (IsShort was × IsShort now)))
+      ⊎ OneInDoubt first entry begun span forms given
   -- a crash at any moment of the run: before the opening has done anything, or with every command that was answered
   pub crash : LeavesOnly span.from span.to span.past span.since (λ files s. entry files s ⊎ KeepsAnswered first forms span.stamp files s)
   -- 0: a crash from then on leaves the state after all commands

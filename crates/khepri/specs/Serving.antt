@@ -32,12 +32,12 @@ pub record Span : Type 1 where
   pub was : Option (List ℕ)
   pub now : Option (List ℕ)
 
--- Over the span the log gained the records of these commands, and is else as it was.
+-- Over the span the log gained the records of these commands, and is otherwise as it was.
 abbrev pub Logs : Span → State → List Form → Type 0
 Logs span first forms = Told span.was span.now (λ was now. now ≡ log_after forms first was)
 
 -- A front of these commands was answered, and at most one more was executed, of whose reply a front was given. A log gained the records of
--- these, and is else as it was.
+-- these, and is otherwise as it was.
 pub record OneBehind (first : State) (forms : List Form) (given was now : List ℕ) : Type 0 where
   pub answered : List Form
   pub last : List Form
@@ -45,7 +45,7 @@ pub record OneBehind (first : State) (forms : List Form) (given was now : List �
   pub front : IsFrontOf (answered ++ last) forms
   pub part : List ℕ
   pub text : given ≡ text_of answered first ++ part
-  pub begun : IsFrontOf part (text_of last (state_after answered first))
+  pub reply : IsFrontOf part (text_of last (state_after answered first))
   pub log : now ≡ log_after (answered ++ last) first was
 
 -- Over the span a crash leaves the state after some of these commands.
@@ -69,7 +69,7 @@ pub record ServedToFault (is_end : Bool) (bytes : List ℕ) (old : State) (span 
   pub log : Logs span old forms
   pub crash : KeepsPrefix span old forms
 
--- Over the span, forms were executed, and a front of their replies was given.
+-- Over the span, forms were answered, maybe but for the last, of whose reply a front was given.
 pub record ServedPart (is_end : Bool) (bytes : List ℕ) (old : State) (span : Span) (given : List ℕ) : Type 0 where
   pub forms : List Form
   pub reads : BeginsReading is_end bytes forms

@@ -1,7 +1,6 @@
 -- A state of the store, and what commands do to it.
 use Rattle.std.specs.Prelude.{ℕ, ◌+◌, Bool, true, ◌&&◌, nat_le, List, [], ◌∷◌, ◌++◌, length, if◌then◌else◌}
-use Rattle.kh_io.specs.Disk.{put}
-use Rattle.kh_log.specs.Records.{log_of}
+use Rattle.kh_log.specs.Log.{with_records}
 use Rattle.kh_term.specs.declared.tree.TermTree.{TermTree}
 use Rattle.kh_text_defs.specs.Shown.{shown_line}
 use Rattle.kh_read.specs.declared.form.Form.{Form}
@@ -37,16 +36,10 @@ record_span (form.Get path) = 0
 abbrev pub store_logs : Form → State → Bool
 store_logs form s = log_has_room form s.span && is_logged form s.nodes
 
--- the records that a command adds to the log: one of its bytes where it is logged
+-- the records that a command adds to the log: where it is logged, one, its packed bytes
 abbrev pub records_logged : Form → State → List (List ℕ)
 records_logged (form.Put path number) s = if store_logs (form.Put path number) s then put_bytes path number ∷ [] else []
 records_logged (form.Get path) s = []
-
--- The bytes of a log with these records behind those that it had: they stand from its last gate on, which is at this place, and behind them
--- stands `00`. No other byte is changed.
-abbrev pub with_records : ℕ → List (List ℕ) → List ℕ → List ℕ
-with_records last [] log = log
-with_records last (r ∷ rs) log = put log last (log_of (r ∷ rs))
 
 -- the bytes of the log after a command
 abbrev pub log_with : Form → State → List ℕ → List ℕ

@@ -4,7 +4,7 @@ use Rattle.kh_io.specs.declared.files.Files.{Files}
 use Rattle.kh_io.specs.Told.{Told}
 use Rattle.kh_io.specs.Disk.{file_of, TellsFiles, IsSafe, LeavesOnly}
 use Rattle.kh_log.specs.Records.{records_of, IsClosedAt}
-use Rattle.kh_log.specs.Log.{Place, Holds}
+use Rattle.kh_log.specs.Log.{Place, Holds, IsBeforeOrAfter}
 use Rattle.kh_read.specs.declared.form.Form.{Form}
 use Rattle.khepri.specs.Tree.{Node}
 use Rattle.khepri.specs.State.{State, empty, records_logged, store_after}
@@ -54,17 +54,17 @@ Begun was now = ((2 ≤ length was) × (now ≡ was)) ⊎ (IsShort was × (now �
 abbrev pub GainsRecords : (was now : List ℕ) → Type 0
 GainsRecords was now = (now ≡ was) ⊎ ((more : List (List ℕ)) × (0 < length more) × (records_of now ≡ records_of was ++ more))
 
--- what a read gives of the log before a command that is logged, and after the disk failed: its record may be there
+-- what a read gives of the log before a command that is logged, and after the disk failed: the same records, or its own behind them
 abbrev pub MaybeLogs : Form → State → (was now : List ℕ) → Type 0
-MaybeLogs form s was now = (records_of now ≡ records_of was) ⊎ (records_of now ≡ records_of was ++ records_logged form s)
+MaybeLogs form s was now = IsBeforeOrAfter (records_of was) (records_logged form s) now
 
--- the first holds of the bytes that were and others, and the second of these and the bytes that are
+-- there are bytes between, so that the first holds from the bytes that were to them, and the second from them to the bytes that are
 abbrev pub InTurn : (first second : List ℕ → List ℕ → Type 0) → (was now : List ℕ) → Type 0
 InTurn first second was now = (between : List ℕ) × first was between × second between now
 
--- what a read gives after a store was opened: what it gave before, but for a file 1 that held no log
+-- what a read gives after a store was opened: what it gave before, but for a file 1 that held no log, which holds none then
 abbrev pub ReadsAsBefore : (seen seen' : ℕ → Option (List ℕ)) → Type 0
-ReadsAsBefore seen seen' = (file : ℕ) → file < 4 → Told (seen file) (seen' file) (λ was now. (now ≡ was) ⊎ ((file ≡ 1) × IsShort was))
+ReadsAsBefore seen seen' = (file : ℕ) → file < 4 → Told (seen file) (seen' file) (λ was now. (now ≡ was) ⊎ ((file ≡ 1) × IsShort was × IsShort now))
 
 -- File 1 alone is written: of each other file a read gives what it gave, and a crash, in the call or behind it, leaves nothing that
 -- it couldn't have left before.

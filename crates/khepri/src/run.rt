@@ -41,10 +41,10 @@ pub fn run<H: Host>(alloc: Global, host: &mut H) -> Result<(), Stop>
         (H.image host.old) (H.image host.new) (H.seen host.old) (H.seen host.new) (H.left host.old) (H.left host.new) (H.given host.old) (H.given host.new)
         (H.journal host.old) (H.journal host.new)) }
     ensures files { WritesLogAlone (H.seen host.old) (H.seen host.new) (H.image host.old) (H.image host.new) (H.moment host.old) (H.moment host.new) (H.left_since host.old) (H.left_since host.new) }
-    ensures log { result ≢ Err Stop.DiskFault → result ≢ Err Stop.NoMemory → Told (H.seen host.old 1) (H.seen host.new 1) (InTurn Begun GainsRecords) }
+    ensures log { result ≢ Err Stop.DiskFault → Told (H.seen host.old 1) (H.seen host.new 1) (InTurn Begun GainsRecords) }
     ensures opening { result ≢ Err Stop.DiskFault → result ≢ Err Stop.NoMemory → Told (H.seen host.old 1) (H.seen host.new 1)
         (λ was _. Extends (H.journal host.old) (H.journal host.new) (BeginByOpening was)) }
-    ensures safe { result ≢ Err Stop.DiskFault → result ≢ Err Stop.NoMemory → AreSafe (H.seen host.new) (H.image host.new) }
+    ensures safe { result ≢ Err Stop.DiskFault → AreSafe (H.seen host.new) (H.image host.new) }
     ensures damage { result ≡ Err Stop.Damaged → FilesTold (H.seen host.old) (H.seen host.new) FindsDamage }
     ensures reads { result ≡ Err Stop.ReadFault → Rose (H.read_faults host.old) (H.read_faults host.new) }
     ensures writes { result ≡ Err Stop.WriteFault → Rose (H.write_faults host.old) (H.write_faults host.new) }
@@ -53,11 +53,13 @@ pub fn run<H: Host>(alloc: Global, host: &mut H) -> Result<(), Stop>
     ensures no_write_fault { result ≢ Err Stop.WriteFault → H.write_faults host.new ≡ H.write_faults host.old }
     ensures no_disk_fault { result ≢ Err Stop.DiskFault → H.disk_faults host.new ≡ H.disk_faults host.old }
 {
-    let Ok(mut buffer) = vec![in alloc; 0u8; PIECE] else {
-        return Err(Stop::NoMemory);
-    };
     match Store::open(alloc, host) {
-        Ok(mut store) => answer_script(alloc, host, &mut store, buffer.as_mut_slice()),
+        Ok(mut store) => {
+            let Ok(mut buffer) = vec![in alloc; 0u8; PIECE] else {
+                return Err(Stop::NoMemory);
+            };
+            answer_script(alloc, host, &mut store, buffer.as_mut_slice())
+        }
         Err(OpenError::Damaged { file, offset }) => Err(report(alloc, host, file, offset)),
         Err(OpenError::DiskFault) => Err(Stop::DiskFault),
         Err(OpenError::NoMemory) => Err(Stop::NoMemory),

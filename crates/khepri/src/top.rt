@@ -17,11 +17,11 @@ use std::alloc::Global;
 /// 5 the disk failed; 6 memory ran out; 7 other words; 9 a script of more than 67,108,864 bytes.
 pub fn khepri<H: Host>(alloc: Global, words: &[String], host: &mut H) -> u8
     // Where the files at entry recover to a state: what was given is a front of the replies to the commands, executed from that state
-    // on, at 0, 2 and 9 all of them; at 4 at most one command more was executed than was answered; at 5 nothing was taken, or those before
-    // one logged command were answered. The log gained the records of the commands that were executed, and else no byte of it changed; at 5
-    // it has the records of those answered, and maybe that of the one in doubt. A crash at any moment since entry leaves what a crash at
-    // entry might have left, or the state after the first k commands, among which is each whose reply has begun; after 0 it leaves the state
-    // after all.
+    // on, at 0, 2 and 9 all of them; at 4 and 6 at most one command more was executed than was answered; at 5 nothing was taken, or those
+    // before one logged command were answered. The log gained the records of the commands that were executed, with `00` behind them, and no
+    // other byte of it changed; at 5 it has the records of those answered, and maybe that of the one in doubt. A crash at any moment since
+    // entry leaves what a crash at entry might have left, or the state after the first k commands, among which is each whose reply has
+    // begun; after 0 it leaves the state after all.
     // Where they are damaged: the line that says so is given, and reads and crashes give what they gave. The status is 1, unless a call
     // of the disk fails before the damage is met (5) or one of the sink while some of the line is left (4), or memory runs out.
     ensures session { IsTrue (are_right words.now) → FilesTold (H.seen host.old) (H.seen host.new) (λ files. (found : Recovery) → Recovers files found → Runs found result files
@@ -32,16 +32,16 @@ pub fn khepri<H: Host>(alloc: Global, words: &[String], host: &mut H) -> u8
     // Of each file but the log a read gives what it gave, and a crash at any moment leaves nothing that it couldn't have left at entry.
     ensures files { WritesLogAlone (H.seen host.old) (H.seen host.new) (H.image host.old) (H.image host.new) (H.moment host.old) (H.moment host.new) (H.left_since host.old) (H.left_since host.new) }
 
-    // Unless the disk failed or memory ran out, a log was begun in file 1 where there was none, and it gained records or is as it was.
-    ensures log { result ≢ 5 → result ≢ 6 → result ≢ 7 → Told (H.seen host.old 1) (H.seen host.new 1) (InTurn Begun GainsRecords) }
+    // At each status but 5 and 7, a log was begun in file 1 where there was none, and it gained records or is as it was.
+    ensures log { result ≢ 5 → result ≢ 7 → Told (H.seen host.old 1) (H.seen host.new 1) (InTurn Begun GainsRecords) }
 
-    // Unless the disk failed or memory ran out, its first calls sync all files and, where file 1 is shorter than 2 bytes, cut it to nothing
-    // and write and sync an empty log.
+    // At each status but 5, 6 and 7, its first calls sync all files and, where file 1 is shorter than 2 bytes, cut it to nothing and write
+    // and sync an empty log.
     ensures opening { result ≢ 5 → result ≢ 6 → result ≢ 7 → Told (H.seen host.old 1) (H.seen host.new 1)
         (λ was _. Extends (H.journal host.old) (H.journal host.new) (BeginByOpening was)) }
 
-    // Unless the disk failed or memory ran out, a crash from then on leaves of each file what a read gives.
-    ensures safe { result ≢ 5 → result ≢ 6 → result ≢ 7 → AreSafe (H.seen host.new) (H.image host.new) }
+    // At each status but 5 and 7, a crash from then on leaves of each file what a read gives.
+    ensures safe { result ≢ 5 → result ≢ 7 → AreSafe (H.seen host.new) (H.image host.new) }
 
     // Where no call of the host fails, the status says how the run ends.
     ensures status { IsTrue (are_right words.now) → Stood (H.read_faults host.old) (H.read_faults host.new) → Stood (H.write_faults host.old) (H.write_faults host.new)

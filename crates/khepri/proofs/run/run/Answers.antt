@@ -8,8 +8,8 @@ use Rattle.khepri.specs.declared.store.OpenError.{OpenError}
 use Rattle.khepri.specs.declared.store.OpenError.TheVariants as open_error
 use Rattle.khepri.specs.Run.{stop_status, damage_line}
 use Rattle.khepri.specs.Store.{Opened, state_of}
-use Rattle.khepri.proofs.Entry.{runs_opened, runs_damaged, runs_faulted, runs_out, runs_untouched, finds_damage}
-use Rattle.khepri.proofs.LogAlone.{untouched, none_touched, written_then, written_tells, gains_kept, keeps_then}
+use Rattle.khepri.proofs.Entry.{runs_opened, runs_damaged, runs_faulted, runs_out, finds_damage}
+use Rattle.khepri.proofs.LogAlone.{none_touched, written_then, written_tells, gains_kept, keeps_then}
 use Rattle.khepri.proofs.Safe.{all_safe, log_safe}
 use Rattle.khepri.proofs.Opened.{opened_then}
 use Rattle.khepri.proofs.run.run.Goals as goal
@@ -77,23 +77,17 @@ no_other s (inr (inl e)) (inr f) = cc
 no_other s (inr (inr e)) (inl f) = cc
 no_other s (inr (inr e)) (inr f) = cc
 
-pub returns-in_default-clause-ran : goal.returns-in_default-clause-ran
-returns-in_default-clause-ran g c =
+pub returns-in-Ok-vec-clause-ran : goal.returns-in-Ok-vec-clause-ran
+returns-in-Ok-vec-clause-ran g c =
     let host = g.H.Disk in
-    runs_untouched (host.seen c.args.host.now) (host.image c.args.host.now) (host.left c.args.host.now) (host.given c.args.host.now) (host.journal c.args.host.now) (host.stamp c.args.host.now)
-    (host.moment c.args.host.now) (host.left_since c.args.host.now) (g.met.H.Disk.only_now c.args.host.now)
-
-pub returns-in-Ok-open-clause-ran : goal.returns-in-Ok-open-clause-ran
-returns-in-Ok-open-clause-ran g c =
-    let host = g.H.Disk in
-    let opened = c.in-Ok-open.ensures in
+    let opened = c.in-Ok.ensures in
     let ran = c.answer_script.ensures in
-    runs_opened (state_of c.in-Ok-open.store) _ (host.seen c.args.host.now) (host.seen c.open.new.host) (host.seen c.answer_script.new.host)
+    runs_opened (state_of c.in-Ok.store) _ (host.seen c.args.host.now) (host.seen c.open.new.host) (host.seen c.answer_script.new.host)
     (host.image c.args.host.now) (host.image c.answer_script.new.host) (host.left c.args.host.now) (host.left c.open.new.host) (host.left c.answer_script.new.host)
     (host.given c.args.host.now) (host.given c.open.new.host) (host.given c.answer_script.new.host) (host.journal c.args.host.now) (host.journal c.answer_script.new.host) (host.stamp c.args.host.now) (host.stamp c.open.new.host)
     (host.moment c.args.host.now) (host.moment c.open.new.host) (host.moment c.answer_script.new.host)
     (host.left_since c.args.host.now) (host.left_since c.open.new.host) (host.left_since c.answer_script.new.host)
-    opened.recovered (written_tells ran.files) opened.stamp opened.any_moment (opened.begun (opened_whole c.in-Ok-open.store)) opened.input opened.sink ran.ran
+    opened.recovered (written_tells ran.files) opened.stamp opened.any_moment (opened.begun (opened_whole c.in-Ok.store)) opened.input opened.sink ran.ran
 
 pub returns-in-Err-Damaged-clause-ran : goal.returns-in-Err-Damaged-clause-ran
 returns-in-Err-Damaged-clause-ran g c =
@@ -147,46 +141,54 @@ returns-in-Err-DiskFault-clause-ran g c =
     (host.moment c.args.host.now) (host.moment c.open.new.host) (host.left_since c.args.host.now) (host.left_since c.open.new.host)
     opened.reads opened.any_moment opened.input opened.sink (opened.calls_at_fault (refused c.in-Err-DiskFault.field-0-is))
 
-pub returns-clause-ran : goal.returns-clause-ran
-returns-clause-ran g c =
+-- no memory was left for the input
+pub returns-in_default-clause-ran : goal.returns-in_default-clause-ran
+returns-in_default-clause-ran g c =
+    let host = g.H.Disk in
+    let opened = c.in-Ok.ensures in
+    runs_out (host.seen c.args.host.now) (host.seen c.open.new.host) (host.image c.args.host.now) (host.image c.open.new.host)
+    (host.left c.args.host.now) (host.left c.open.new.host) (host.given c.args.host.now) (host.given c.open.new.host) (host.journal c.args.host.now) (host.journal c.open.new.host) (host.stamp c.args.host.now)
+    (host.moment c.args.host.now) (host.moment c.open.new.host) (host.left_since c.args.host.now) (host.left_since c.open.new.host)
+    opened.reads opened.any_moment opened.input opened.sink (opened.begun (opened_whole c.in-Ok.store))
+
+-- or for the tree
+pub returns-in-Err-NoMemory-clause-ran : goal.returns-in-Err-NoMemory-clause-ran
+returns-in-Err-NoMemory-clause-ran g c =
     let host = g.H.Disk in
     let opened = c.in-Err-NoMemory.ensures in
     runs_out (host.seen c.args.host.now) (host.seen c.open.new.host) (host.image c.args.host.now) (host.image c.open.new.host)
     (host.left c.args.host.now) (host.left c.open.new.host) (host.given c.args.host.now) (host.given c.open.new.host) (host.journal c.args.host.now) (host.journal c.open.new.host) (host.stamp c.args.host.now)
     (host.moment c.args.host.now) (host.moment c.open.new.host) (host.left_since c.args.host.now) (host.left_since c.open.new.host)
-    opened.reads opened.any_moment opened.input opened.sink (inr (opened.begun (out_whole c.in-Err-NoMemory.field-0-is)))
+    opened.reads opened.any_moment opened.input opened.sink (opened.begun (out_whole c.in-Err-NoMemory.field-0-is))
 
-pub returns-in_default-clause-files : goal.returns-in_default-clause-files
-returns-in_default-clause-files g c = untouched _ _ _ _ _ (g.met.H.Disk.only_now c.args.host.now)
-
-pub returns-in-Ok-open-clause-files : goal.returns-in-Ok-open-clause-files
-returns-in-Ok-open-clause-files g c = written_then c.in-Ok-open.ensures.files c.answer_script.ensures.files
+pub returns-in-Ok-vec-clause-files : goal.returns-in-Ok-vec-clause-files
+returns-in-Ok-vec-clause-files g c = written_then c.in-Ok.ensures.files c.answer_script.ensures.files
 
 pub returns-in-Err-Damaged-clause-files : goal.returns-in-Err-Damaged-clause-files
 returns-in-Err-Damaged-clause-files g c = written_then c.in-Err-Damaged.ensures.files (none_touched c.report.ensures.files c.report.ensures.any_moment)
 
-pub returns-in-Ok-open-clause-safe : goal.returns-in-Ok-open-clause-safe
-returns-in-Ok-open-clause-safe g c = λ no_fault enough.
+pub returns-in-Ok-vec-clause-safe : goal.returns-in-Ok-vec-clause-safe
+returns-in-Ok-vec-clause-safe g c = λ no_fault.
     let ran = c.answer_script.ensures in
-    log_safe (c.in-Ok-open.ensures.safe (opened_whole c.in-Ok-open.store)) ran.files (ran.stands no_fault).safe (g.met.H.Disk.untold_is_not_left c.answer_script.new.host)
+    log_safe (c.in-Ok.ensures.safe (opened_whole c.in-Ok.store)) ran.files (ran.stands no_fault).safe (g.met.H.Disk.untold_is_not_left c.answer_script.new.host)
 
 pub returns-in-Err-Damaged-clause-safe : goal.returns-in-Err-Damaged-clause-safe
-returns-in-Err-Damaged-clause-safe g c = λ no_fault enough.
+returns-in-Err-Damaged-clause-safe g c = λ no_fault.
     all_safe (c.in-Err-Damaged.ensures.safe (damaged_whole c.in-Err-Damaged.field-0-is)) c.report.ensures.files (g.met.H.Disk.untold_is_not_left c.report.new.host)
 
 -- a log was begun, and gained what the script logs
-pub returns-in-Ok-open-clause-log : goal.returns-in-Ok-open-clause-log
-returns-in-Ok-open-clause-log g c = λ no_fault enough.
+pub returns-in-Ok-vec-clause-log : goal.returns-in-Ok-vec-clause-log
+returns-in-Ok-vec-clause-log g c = λ no_fault.
     let host = g.H.Disk in
     keeps_then (host.seen c.args.host.now 1) (host.seen c.open.new.host 1) (host.seen c.answer_script.new.host 1)
-    (c.in-Ok-open.ensures.begun (opened_whole c.in-Ok-open.store)) (c.answer_script.ensures.log no_fault)
+    (c.in-Ok.ensures.begun (opened_whole c.in-Ok.store)) (c.answer_script.ensures.log no_fault)
 
-pub returns-in-Ok-open-clause-opening : goal.returns-in-Ok-open-clause-opening
-returns-in-Ok-open-clause-opening g c = λ no_fault enough.
-    opened_then _ _ _ _ _ _ _ c.in-Ok-open.ensures.calls (c.answer_script.ensures.files.reads 1 (omega arith)) c.answer_script.ensures.grows
+pub returns-in-Ok-vec-clause-opening : goal.returns-in-Ok-vec-clause-opening
+returns-in-Ok-vec-clause-opening g c = λ no_fault enough.
+    opened_then _ _ _ _ _ _ _ c.in-Ok.ensures.calls (c.answer_script.ensures.files.reads 1 (omega arith)) c.answer_script.ensures.grows
 
 pub returns-in-Err-Damaged-clause-log : goal.returns-in-Err-Damaged-clause-log
-returns-in-Err-Damaged-clause-log g c = λ no_fault enough.
+returns-in-Err-Damaged-clause-log g c = λ no_fault.
     let host = g.H.Disk in
     keeps_then (host.seen c.args.host.now 1) (host.seen c.open.new.host 1) (host.seen c.report.new.host 1)
     (c.in-Err-Damaged.ensures.begun (damaged_whole c.in-Err-Damaged.field-0-is)) (gains_kept _ _ (c.report.ensures.files 1 (omega arith)).read)
@@ -196,14 +198,14 @@ returns-in-Err-Damaged-clause-opening g c = λ no_fault enough.
     opened_then _ _ _ _ _ _ _ (c.in-Err-Damaged.ensures.calls_damaged c.in-Err-Damaged.file c.in-Err-Damaged.offset (refused c.in-Err-Damaged.field-0-is)) (c.report.ensures.files 1 (omega arith)).read c.report.ensures.grows
 
 -- a disk that failed ends the run
-pub returns-in-Ok-open-clause-disk : goal.returns-in-Ok-open-clause-disk
-returns-in-Ok-open-clause-disk g c = λ is.
+pub returns-in-Ok-vec-clause-disk : goal.returns-in-Ok-vec-clause-disk
+returns-in-Ok-vec-clause-disk g c = λ is.
     let host = g.H.Disk in
-    subst (λ n. Rose n (host.disk_faults c.answer_script.new.host)) (c.in-Ok-open.ensures.no_fault (opened_whole c.in-Ok-open.store)) (c.answer_script.ensures.disk is)
+    subst (λ n. Rose n (host.disk_faults c.answer_script.new.host)) (c.in-Ok.ensures.no_fault (opened_whole c.in-Ok.store)) (c.answer_script.ensures.disk is)
 
-pub returns-in-Ok-open-clause-no_disk_fault : goal.returns-in-Ok-open-clause-no_disk_fault
-returns-in-Ok-open-clause-no_disk_fault g c = λ other.
-    c.answer_script.ensures.no_disk_fault other ∙ c.in-Ok-open.ensures.no_fault (opened_whole c.in-Ok-open.store)
+pub returns-in-Ok-vec-clause-no_disk_fault : goal.returns-in-Ok-vec-clause-no_disk_fault
+returns-in-Ok-vec-clause-no_disk_fault g c = λ other.
+    c.answer_script.ensures.no_disk_fault other ∙ c.in-Ok.ensures.no_fault (opened_whole c.in-Ok.store)
 
 pub returns-in-Err-Damaged-clause-no_disk_fault : goal.returns-in-Err-Damaged-clause-no_disk_fault
 returns-in-Err-Damaged-clause-no_disk_fault g c = λ other.
