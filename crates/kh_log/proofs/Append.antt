@@ -42,6 +42,10 @@ ends_at last rs bytes s = record {
   gate = record { gate = s.gate; behind = s.tail; there = ap (drop last) s.is ∙ drop_at s.front (s.gate ∷ s.tail) last s.place; closed = s.closed };
 }
 
+-- the place of the gate is told by the records
+pub at_span : (last : ℕ) (rs : List (List ℕ)) (bytes : List ℕ) → EndsAt last rs bytes → EndsAt (span rs) rs bytes
+at_span last rs bytes e = subst (λ n. EndsAt n rs bytes) e.place e
+
 one_more : (front : List ℕ) (gate : ℕ) (tail : List ℕ) → front ++ (gate ∷ tail) ≡ (front ++ gate ∷ []) ++ tail
 one_more front gate tail = sym (append_assoc front (gate ∷ []) tail)
 
@@ -137,7 +141,7 @@ opened last rs qs body bytes front tail g records place is =
       closed = λ zero_is. absurd (omega (arith, zero_is));
     })
 
--- the records stand whole in each outcome of the second write
+-- the records stand whole in each outcome of the second write, and behind them a closed gate
 pub torn_gate : (last : ℕ) (rs qs : List (List ℕ)) (body was bytes : List ℕ) → Group qs body → Staged last rs body was → Torn last 1 was bytes → IsBeforeOrAfter rs qs bytes
 torn_gate last rs qs body was bytes g s torn =
     let some : 1 ≤ length (drop last bytes) =
@@ -149,8 +153,17 @@ torn_gate last rs qs body was bytes g s torn =
     let is : bytes ≡ s.front ++ (first.0 ∷ (body ++ s.tail)) =
     sym (take-append-drop last bytes) ∙ ap (λ (l : List ℕ). l ++ drop last bytes) front ∙ ap (λ (l : List ℕ). s.front ++ l) (first.2 ∙ ap (λ (l : List ℕ). first.0 ∷ l) behind) in
     elim (cases_eq first.0 open_gate) [
-      | inl gate ↦ inr (opened last rs qs body bytes s.front s.tail g s.records s.place (is ∙ ap (λ k. s.front ++ (k ∷ (body ++ s.tail))) gate)).content
-      | inr shut ↦ inl (ap content_of is ∙ content_closed rs s.front first.0 (body ++ s.tail) s.records shut)
+      | inl gate ↦ inr (at_span (last + length body) (rs ++ qs) bytes
+          (opened last rs qs body bytes s.front s.tail g s.records s.place (is ∙ ap (λ k. s.front ++ (k ∷ (body ++ s.tail))) gate)))
+      | inr shut ↦ inl (at_span last rs bytes (ends_at last rs bytes (record {
+        front = s.front;
+        gate = first.0;
+        tail = body ++ s.tail;
+        is = is;
+        records = s.records;
+        place = s.place;
+        closed = shut;
+      })))
     ]
 
 pub written_gate : (last : ℕ) (rs qs : List (List ℕ)) (body was bytes : List ℕ) → Group qs body → Staged last rs body was → bytes ≡ put was last (open_gate ∷ [])

@@ -9,7 +9,7 @@ use Rattle.kh_log.specs.Records.{open_gate, Content, records_of, log_of, span, I
 use Rattle.kh_log.specs.Log.{Place, Holds, ImagesAre, moved, begun_at, EndsAt, IsBeforeOrAfter, IsGroup, Appending, Writing, with_records}
 use Rattle.std.proofs.lemmas.List.{take_all}
 use Rattle.kh_log.proofs.Records.{span-append, length-front}
-use Rattle.kh_log.proofs.Append.{ends_at, nothing_split, Staged, group_of, torn_behind, written_behind, torn_gate, written_gate, put_gate}
+use Rattle.kh_log.proofs.Append.{ends_at, at_span, nothing_split, Staged, group_of, torn_behind, written_behind, torn_gate, written_gate, put_gate}
 
 pub longer : (at : ℕ) (bytes was : List ℕ) → at ≤ length was → length was ≤ length (put was at bytes)
 longer at bytes was le = omega (arith, le, length-append (take at was ++ bytes) (drop (at + length bytes) was), length-append (take at was) bytes, length-take at was, length-drop (at + length bytes) was)
@@ -24,7 +24,7 @@ start_again old None last bytes is lt = tt
 -- of an outcome of the first write
 pub first_left : {image : List ℕ → Type 0} (last : ℕ) (rs more : List (List ℕ)) (n : ℕ) → ((was : List ℕ) → image was → EndsAt last rs was)
     → (left : List ℕ) → (was : List ℕ) × image was × Torn (last + 1) n was left → IsBeforeOrAfter rs more left
-first_left last rs more n ends left (was, before, torn) = inl (torn_behind last n rs was left (ends was before) torn).content
+first_left last rs more n ends left (was, before, torn) = inl (at_span last rs left (torn_behind last n rs was left (ends was before) torn))
 
 -- between the writes a crash leaves the group behind the gate
 pub staged : {image image' : List ℕ → Type 0} (last : ℕ) (rs : List (List ℕ)) (body : List ℕ) → ((was : List ℕ) → image was → EndsAt last rs was)

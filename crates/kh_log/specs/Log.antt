@@ -66,9 +66,9 @@ abbrev pub with_records : ℕ → List (List ℕ) → List ℕ → List ℕ
 with_records last [] log = log
 with_records last (r ∷ rs) log = put log last (log_of (r ∷ rs))
 
--- these records, or these and more behind them
+-- exactly these records, or these and more behind them, and behind either a closed gate
 abbrev pub IsBeforeOrAfter : (rs more : List (List ℕ)) → List ℕ → Type 0
-IsBeforeOrAfter rs more bytes = (content_of bytes ≡ whole rs) ⊎ (content_of bytes ≡ whole (rs ++ more))
+IsBeforeOrAfter rs more bytes = EndsAt (span rs) rs bytes ⊎ EndsAt (span (rs ++ more)) (rs ++ more) bytes
 
 -- What a crash while records are appended may leave: in the log's file these from before or all of them, each other file as a crash before
 -- might have left it, and the stamp as it was.
