@@ -13,7 +13,7 @@ use Rattle.kh_log.proofs.Records.{content_of-short}
 use Rattle.kh_read.specs.declared.form.Form.{Form}
 use Rattle.khepri.specs.State.{State, empty, state_after, log_after, text_of}
 use Rattle.khepri.specs.Recovery.{Recovery, Recovered, Damaged, ends, ReplaysUnless, Recovers}
-use Rattle.khepri.specs.Store.{FilesTold, IsShort, Begun, InTurn, MaybeLogs, Opening, ReadsAsBefore}
+use Rattle.khepri.specs.Store.{FilesTold, IsShort, StaysShort, Begun, InTurn, MaybeLogs, Opening, ReadsAsBefore}
 use Rattle.khepri.specs.Damage.{FailBefore, FailInside}
 use Rattle.khepri.specs.Opening.{OpenedBy}
 use Rattle.khepri.specs.Serving.{OneBehind}
@@ -94,7 +94,7 @@ begun_then P a b c begun then = told_both a b c begun then (λ x y z p q. (q.0, 
 one_is_short : IsShort (0 ∷ [])
 one_is_short = omega arith
 
-as_it_was : (was between now : List ℕ) → Begun was between → (now ≡ between) ⊎ (IsShort between × IsShort now) → (now ≡ was) ⊎ (IsShort was × IsShort now)
+as_it_was : (was between now : List ℕ) → Begun was between → (now ≡ between) ⊎ StaysShort between now → (now ≡ was) ⊎ StaysShort was now
 as_it_was was between now (inl found) (inl same) = inl (same ∙ found.1)
 as_it_was was between now (inl found) (inr short) = inr (subst IsShort found.1 short.0, short.1)
 as_it_was was between now (inr begun) (inl same) = inr (begun.0, subst IsShort (sym (same ∙ begun.1)) one_is_short)
@@ -189,7 +189,7 @@ damaged_reads : (seen seen' : ℕ → Option (List ℕ)) (files : Files) (file o
     → (this : ℕ) → this < 4 → Kept (seen this) (seen' this)
 damaged_reads seen seen' files file offset are recovers reads this lt =
     kept_unless (seen this) (seen' this) (reads this lt) (λ was now same short.
-    let own : IsShort files.l0 = subst IsShort (some_same was files.l0 (sym same ∙ ap seen short.0 ∙ are 1 (omega arith))) short.1 in
+    let own : IsShort files.l0 = subst IsShort (some_same was files.l0 (sym same ∙ ap seen short.0 ∙ are 1 (omega arith))) short.1.0 in
     apart (recovery_one files (Damaged file offset) (Recovered empty) recovers (short_recovers files own)))
   where
     some_same : (a b : List ℕ) → Some a ≡ Some b → a ≡ b
@@ -248,7 +248,7 @@ finds_damage file offset seen seen' seen2 image1 image' damaged stay = record {
 ran_nothing : (first : State) (status : ℕ) (seen : ℕ → Option (List ℕ)) (image image' : ℕ → List ℕ → Type 0) (files : Files) (input : List ℕ)
     (stamp m0 m1 : ℕ) (past since : ℕ → Files → ℕ → Type 0) (l0 l1 : Option (List ℕ)) → AreSeen seen files → Recovers files (Recovered first)
     → LeavesOnly m0 m1 past since (Opening seen image stamp) → (status ≡ 5) ⊎ (status ≡ 6)
-    → Told l0 l1 (λ was now. (now ≡ was) ⊎ (IsShort was × IsShort now)) → (status ≡ 6 → Told l0 l1 Begun)
+    → Told l0 l1 (λ was now. (now ≡ was) ⊎ StaysShort was now) → (status ≡ 6 → Told l0 l1 Begun)
     → Ran first status (AtEntry image stamp) Begun (record { stamp = stamp; from = m0; to = m1; past = past; since = since; was = l0; now = l1 }) image' input input []
 ran_nothing first status seen image image' files input stamp m0 m1 past since l0 l1 are recovers opening why reads out =
     let script = script_exists _ _ in
@@ -284,7 +284,7 @@ runs_nothing (Recovered first) status seen seen' image image' files left0 left1 
       same' ∙ sym (append-nil x),
       subst (λ (r : List ℕ). Ran first status (AtEntry image stamp) Begun (record { stamp = stamp; from = m0; to = m1; past = past; since = since; was = seen 1; now = seen' 1 }) image' a r []) (sym same)
           (ran_nothing first status seen image image' files a stamp m0 m1 past since (seen 1) (seen' 1) are recovers opening why
-          (told_map (seen 1) (seen' 1) (reads 1 (omega arith)) (λ was now is. elim is [ inl stays ↦ inl stays | inr short ↦ inr (short.1, short.2) ])) out),
+          (told_map (seen 1) (seen' 1) (reads 1 (omega arith)) (λ was now is. elim is [ inl stays ↦ inl stays | inr short ↦ inr short.1 ])) out),
     )))
 runs_nothing (Damaged file offset) status seen seen' image image' files left0 left1 sink0 sink1 journal0 journal1 stamp m0 m1 past since are recovers reads opening input sink why fails out = record {
   line = told_map sink0 sink1 sink (λ x y same'. (

@@ -6,7 +6,7 @@ use Rattle.kh_io.specs.Told.{Told}
 use Rattle.kh_io.specs.Disk.{AreImages, IsSafe, LeavesOnly}
 use Rattle.kh_io.proofs.Moments.{started, weakened}
 use Rattle.kh_io.proofs.Telling.{told_map, told_same}
-use Rattle.kh_log.specs.Records.{Content, content_of, records_of}
+use Rattle.kh_log.specs.Records.{Content, content_of, records_of, span}
 use Rattle.kh_log.specs.Log.{Place, Holds, moved, ImagesAre, EndsAt, IsBeforeOrAfter, Appending, whole, with_records}
 use Rattle.kh_log.proofs.Opening.{settled}
 use Rattle.kh_term.specs.declared.name.Name.{Name}
@@ -64,8 +64,8 @@ nothing_left {P} image given last m0 m1 past since bytes none run =
 
     never : (files : Files) → IsBeforeOrAfter [] (bytes ∷ []) files.l0 → IsBeforeOrAfter ([] ∷ [] ∷ [] ∷ []) (bytes ∷ []) files.l0 → ⊥
     never files a b = elim a [
-      | inl x ↦ elim b [ inl y ↦ omega (arith, long _ _ x, long _ _ y) | inr y ↦ omega (arith, long _ _ x, long _ _ y) ]
-      | inr x ↦ elim b [ inl y ↦ omega (arith, long _ _ x, long _ _ y) | inr y ↦ omega (arith, long _ _ x, long _ _ y) ]
+      | inl x ↦ elim b [ inl y ↦ omega (arith, long _ _ x.content, long _ _ y.content) | inr y ↦ omega (arith, long _ _ x.content, long _ _ y.content) ]
+      | inr x ↦ elim b [ inl y ↦ omega (arith, long _ _ x.content, long _ _ y.content) | inr y ↦ omega (arith, long _ _ x.content, long _ _ y.content) ]
     ]
 
 -- while a record is written
@@ -85,8 +85,8 @@ writes form store seen image given file last m0 m1 past since bytes more one sam
         weakened (run rs (settled store.place (Some was) was refl stands.found stands.closed stands.safe)) (λ files s left. record {
           stamp = left.stamp;
           recovers = elim left.records [
-            | inl before ↦ inl (whole_recovers files rs (Recovered (state_of store)) before stands.recovers)
-            | inr behind ↦ inr (whole_recovers files (rs ++ bytes ∷ []) (Recovered (store_after form (state_of store))) behind
+            | inl before ↦ inl (whole_recovers files rs (Recovered (state_of store)) before.content stands.recovers)
+            | inr behind ↦ inr (whole_recovers files (rs ++ bytes ∷ []) (Recovered (store_after form (state_of store))) behind.content
                 (replays_then empty rs (bytes ∷ []) (state_of store) (Recovered (store_after form (state_of store))) stands.recovers replays))
           ];
         })
@@ -189,7 +189,7 @@ maybe_logs store seen seen' image image' file last bytes rs path number one plac
     maybe (Some was) (Some now) stands told law left =
         elim (left (records_of was) (settled store.place (Some was) was refl stands.found stands.closed stands.safe) now (law now refl)) [
           | inl before ↦ inl before
-          | inr behind ↦ inr (behind ∙ ap (λ (l : List (List ℕ)). whole (records_of was ++ l)) is)
+          | inr behind ↦ inr (subst (λ (l : List (List ℕ)). EndsAt (span (records_of was ++ l)) (records_of was ++ l) now) is behind)
         ]
     maybe None (Some now) stands told law left = absurd told
     maybe was None stands told law left = tt

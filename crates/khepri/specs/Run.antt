@@ -12,7 +12,7 @@ use Rattle.khepri.specs.declared.session.Stop.{Stop}
 use Rattle.khepri.specs.declared.session.Stop.TheVariants as stop
 use Rattle.khepri.specs.Machine.{word}
 use Rattle.khepri.specs.State.{State, store_logs, state_after, log_after, text_of}
-use Rattle.khepri.specs.Store.{IsShort, Begun, InTurn, MaybeLogs}
+use Rattle.khepri.specs.Store.{StaysShort, Begun, InTurn, MaybeLogs}
 use Rattle.khepri.specs.Recovery.{Recovery, Recovered, Damaged, Recovers}
 use Rattle.khepri.specs.Damage.{FailBefore, FailInside}
 use Rattle.khepri.specs.Script.{Ending, AtEnd, AtFault, Unfinished, WholeScript, FrontScript}
@@ -62,8 +62,8 @@ pub record Answered (first : State) (begun : List ℕ → List ℕ → Type 0) (
 abbrev pub PartAnswered : (first : State) (begun : List ℕ → List ℕ → Type 0) (was now : Option (List ℕ)) (forms : List Form) (given : List ℕ) → Type 0
 PartAnswered first begun was now forms given = Told was now (InTurn begun (OneBehind first forms given))
 
--- All commands before one that is logged were answered, and of its reply nothing was given. Its record may be in the log, and a crash leaves
--- no command behind it.
+-- All commands before one that is logged were answered, and of its reply nothing was given. Its record may be in the log, behind which stands
+-- a closed gate, and a crash leaves no command behind it.
 pub record OneInDoubt (first : State) (entry : Files → ℕ → Type 0) (begun : List ℕ → List ℕ → Type 0) (span : Span) (forms : List Form) (given : List ℕ) : Type 0 where
   pub answered : List Form
   pub form : Form
@@ -102,11 +102,11 @@ pub record Ran (first : State) (status : ℕ) (entry : Files → ℕ → Type 0)
   -- 4 and 6: some commands were answered, and at most one more was executed
   pub write_fault : status ≡ 4 → PartAnswered first begun span.was span.now forms given
   pub no_memory : status ≡ 6 → PartAnswered first begun span.was span.now forms given
-  -- 5: nothing was taken nor given, and the log is as it was, if there was one; or one command that is logged is in doubt, and those before
-  -- it were answered
-  pub disk_fault : status ≡ 5 → ((rest ≡ input) × (given ≡ []) × Told span.was span.now (λ was now. (now ≡ was) ⊎ (IsShort was × IsShort now)))
+  -- 5: nothing was taken nor given, and file 1 is as it was, or was shorter than 2 bytes and is; or one command that is logged is in doubt,
+  -- and those before it were answered
+  pub disk_fault : status ≡ 5 → ((rest ≡ input) × (given ≡ []) × Told span.was span.now (λ was now. (now ≡ was) ⊎ StaysShort was now))
       ⊎ OneInDoubt first entry begun span forms given
-  -- a crash at any moment of the run: before the opening has done anything, or with every command that was answered
+  -- a crash at any moment of the run: what a crash at entry might have left, with nothing given, or every command that was answered
   pub crash : LeavesOnly span.from span.to span.past span.since (λ files s. entry files s ⊎ KeepsAnswered first forms span.stamp files s)
   -- 0: a crash from then on leaves the state after all commands
   pub last : status ≡ 0 → (files : Files) → AreImages image files → Recovers files (Recovered (state_after forms first))

@@ -69,7 +69,7 @@ pub record ServedToFault (is_end : Bool) (bytes : List ℕ) (old : State) (span 
   pub log : Logs span old forms
   pub crash : KeepsPrefix span old forms
 
--- Over the span, forms were answered, maybe but for the last, of whose reply a front was given.
+-- Over the span, a front of these forms was answered and at most one more executed, of whose reply a front was given.
 pub record ServedPart (is_end : Bool) (bytes : List ℕ) (old : State) (span : Span) (given : List ℕ) : Type 0 where
   pub forms : List Form
   pub reads : BeginsReading is_end bytes forms

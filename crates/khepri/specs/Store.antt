@@ -31,22 +31,26 @@ pub record Stands (store : Opened) (seen : Option (List ℕ)) (image : List ℕ 
   pub closed : IfSome seen (IsClosedAt store.place.last)
   pub recovers : IfSome seen (λ bytes. Replays empty (records_of bytes) (Recovered (state_of store)))
 
--- a file that holds no log yet
+-- a file of fewer than 2 bytes, which holds no record
 abbrev pub IsShort : List ℕ → Type 0
 IsShort bytes = length bytes < 2
+
+-- it was so short, and is
+abbrev pub StaysShort : (was now : List ℕ) → Type 0
+StaysShort was now = IsShort was × IsShort now
 
 -- what a crash may leave of each file but one
 abbrev pub OthersLeft : ℕ → (ℕ → List ℕ → Type 0) → Files → Type 0
 OthersLeft this image files = (file : ℕ) → file < 4 → file ≢ this → image file (file_of files file)
 
--- What a crash while a store is opened may leave: what a crash at entry might have left, or of file 1 alone something else, which is no
--- log, where it held none. The stamp is as it was.
+-- What a crash while a store is opened may leave: what a crash at entry might have left, or of file 1 alone something else that is shorter
+-- than 2 bytes, where it was so. The stamp is as it was.
 pub record Opening (seen : ℕ → Option (List ℕ)) (image : ℕ → List ℕ → Type 0) (given : ℕ) (files : Files) (s : ℕ) : Type 0 where
   pub stamp : s ≡ given
   pub log : image 1 files.l0 ⊎ (IsShort files.l0 × IfSome (seen 1) IsShort)
   pub others : OthersLeft 1 image files
 
--- What a read gives of file 1 before a log is begun in it, and after: the same where it held a log, and else the one byte `00`.
+-- What a read gives of file 1 before a log is begun in it, and after: the same where it had 2 bytes or more, and else the one byte `00`.
 abbrev pub Begun : (was now : List ℕ) → Type 0
 Begun was now = ((2 ≤ length was) × (now ≡ was)) ⊎ (IsShort was × (now ≡ 0 ∷ []))
 
@@ -54,7 +58,8 @@ Begun was now = ((2 ≤ length was) × (now ≡ was)) ⊎ (IsShort was × (now �
 abbrev pub GainsRecords : (was now : List ℕ) → Type 0
 GainsRecords was now = (now ≡ was) ⊎ ((more : List (List ℕ)) × (0 < length more) × (records_of now ≡ records_of was ++ more))
 
--- what a read gives of the log before a command that is logged, and after the disk failed: the same records, or its own behind them
+-- what a read gives of the log before a command that is logged, and after the disk failed: the same records, or its own behind them, and a
+-- closed gate
 abbrev pub MaybeLogs : Form → State → (was now : List ℕ) → Type 0
 MaybeLogs form s was now = IsBeforeOrAfter (records_of was) (records_logged form s) now
 
@@ -62,9 +67,9 @@ MaybeLogs form s was now = IsBeforeOrAfter (records_of was) (records_logged form
 abbrev pub InTurn : (first second : List ℕ → List ℕ → Type 0) → (was now : List ℕ) → Type 0
 InTurn first second was now = (between : List ℕ) × first was between × second between now
 
--- what a read gives after a store was opened: what it gave before, but for a file 1 that held no log, which holds none then
+-- what a read gives after a store was opened: what it gave before, but for a file 1 that was shorter than 2 bytes, and is
 abbrev pub ReadsAsBefore : (seen seen' : ℕ → Option (List ℕ)) → Type 0
-ReadsAsBefore seen seen' = (file : ℕ) → file < 4 → Told (seen file) (seen' file) (λ was now. (now ≡ was) ⊎ ((file ≡ 1) × IsShort was × IsShort now))
+ReadsAsBefore seen seen' = (file : ℕ) → file < 4 → Told (seen file) (seen' file) (λ was now. (now ≡ was) ⊎ ((file ≡ 1) × StaysShort was now))
 
 -- File 1 alone is written: of each other file a read gives what it gave, and a crash, in the call or behind it, leaves nothing that
 -- it couldn't have left before.

@@ -17,11 +17,12 @@ use std::alloc::Global;
 /// 5 the disk failed; 6 memory ran out; 7 other words; 9 a script of more than 67,108,864 bytes.
 pub fn khepri<H: Host>(alloc: Global, words: &[String], host: &mut H) -> u8
     // Where the files at entry recover to a state: what was given is a front of the replies to the commands, executed from that state
-    // on, at 0, 2 and 9 all of them; at 4 and 6 at most one command more was executed than was answered; at 5 nothing was taken, or those
-    // before one logged command were answered. The log gained the records of the commands that were executed, with `00` behind them, and no
-    // other byte of it changed; at 5 it has the records of those answered, and maybe that of the one in doubt. A crash at any moment since
-    // entry leaves what a crash at entry might have left, or the state after the first k commands, among which is each whose reply has
-    // begun; after 0 it leaves the state after all.
+    // on, at 0, 2 and 9 all of them, at 3 those to the lines that had come whole; at 4 and 6 at most one command more was executed than was
+    // answered; at 5 nothing was taken, or those before one logged command were answered. The log, begun where file 1 was shorter than 2
+    // bytes, gained the records of the commands that were executed, with `00` behind them, and no other byte of it changed; at 5 it has the
+    // records of those answered, and maybe that of the one in doubt. A crash at any moment since entry leaves what a crash at entry might
+    // have left, with nothing given, or the state after the first k commands, among which is each whose reply has begun; after 0 it leaves
+    // the state after all.
     // Where they are damaged: the line that says so is given, and reads and crashes give what they gave. The status is 1, unless a call
     // of the disk fails before the damage is met (5) or one of the sink while some of the line is left (4), or memory runs out.
     ensures session { IsTrue (are_right words.now) → FilesTold (H.seen host.old) (H.seen host.new) (λ files. (found : Recovery) → Recovers files found → Runs found result files

@@ -21,6 +21,10 @@ const PUT_AND_MORE: &[u8] =
 const STOCK_AND_REST: &[u8] =
     b"\xa5\0\0\0\x20\x06\0\0\0\x04\x02\x03put\x05\0\0\0\x01\x02\x05stock\x04\x01\x02\0\x96\x07\0\0\0\0\0zzzzzzzzzzzzz";
 
+// The same put behind a gate that is still closed.
+const STOCK_BEHIND_ITS_GATE: &[u8] =
+    b"\0\0\0\0\x20\x06\0\0\0\x04\x02\x03put\x05\0\0\0\x01\x02\x05stock\x04\x01\x02\0\x96\x07\0\0\0\0\0";
+
 const GET_STOCK: &[u8] = b"{get,[stock]}.\n";
 
 const FOUND: &[u8] = b"{ok,150}.\n";
@@ -112,7 +116,7 @@ struct Logged {
 }
 
 // Over an empty file call 9 takes the script, calls 10 to 13 log the put, call 14 gives its reply, and call 15 takes what comes behind.
-static LOGGED: [Logged; 6] = [
+static LOGGED: [Logged; 8] = [
     Logged {
         log: b"",
         script: b"{put,[stock],150}.\n",
@@ -139,6 +143,21 @@ static LOGGED: [Logged; 6] = [
         script: b"{put,[stock],150}.\n{put,[stock],1}.\n",
         failing: &[14],
         status: 4,
+        after: STOCK,
+    },
+    // The sync of the record fails, and that of its gate.
+    Logged {
+        log: b"",
+        script: b"{put,[stock],150}.\n",
+        failing: &[11],
+        status: 5,
+        after: STOCK_BEHIND_ITS_GATE,
+    },
+    Logged {
+        log: b"",
+        script: b"{put,[stock],150}.\n",
+        failing: &[13],
+        status: 5,
         after: STOCK,
     },
     // A gate that is closed by another byte than `00`, and what stands behind it.
@@ -590,8 +609,8 @@ fn rest_of(alloc: Global, host: &mut MemoryHost) -> Result<Vec<u8>, Fail> {
     Ok(front.to_vec(alloc)?)
 }
 
-// The disk fails at this call, while the store is opened over a log. No input is taken then, and the files are as they were, also
-// after a crash.
+// The disk fails at this call, while the store is opened over a log. No input is taken then, the log is as it was or still has fewer
+// than 2 bytes, and after a crash the store is as it was.
 fn fails_in_opening(
     rt: &impl Abort,
     alloc: Global,
@@ -605,6 +624,8 @@ fn fails_in_opening(
     assert_eq!(rt; host.output(), b"".as_slice());
     let left = rest_of(alloc, &mut host)?;
     assert_eq!(rt; left.as_slice(), script);
+    let after = image(&host, host.calls(), None)?;
+    assert!(rt; after.l0.as_slice() == log || (log.len() < 2 && after.l0.as_slice().len() < 2));
     for fill in FILLS {
         let files = image(&host, host.calls(), fill)?;
         reopens(rt, alloc, files, GET_STOCK, answer, 0)?;
