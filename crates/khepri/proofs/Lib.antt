@@ -1,5 +1,6 @@
 pub mod TakeBack
 pub mod Room
+pub mod Putting
 pub mod Puts
 pub mod Calls
 pub mod Refused

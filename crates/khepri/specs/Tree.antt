@@ -1,5 +1,5 @@
 -- The tree: a finite map from paths to data or none, as its entries in the order of paths.
-use Rattle.std.specs.Prelude.{ℕ, zero, suc, ℤ, ◌+◌, Bool, nat_le, is_some, List, [], ◌∷◌, ◌++◌, length, take, Option, Some, None, if◌then◌else◌}
+use Rattle.std.specs.Prelude.{◌≡◌, ◌≢◌, ℕ, zero, suc, ℤ, ◌+◌, Bool, nat_le, is_some, unwrap_or, List, [], ◌∷◌, ◌++◌, length, take, Option, Some, None, if◌then◌else◌}
 use Rattle.std.specs.BTreeMap.{insert_entry, is_at}
 use Rattle.std.specs.Map.{lookup}
 use Rattle.kh_term.specs.declared.name.Name.{Name}
@@ -41,6 +41,23 @@ with_data tree paths path number = insert_entry path_cmp (with_nodes tree paths)
 -- the tree with this data at a path, and each node above it
 abbrev pub put : List Node → List Name → ℤ → List Node
 put tree path number = with_data tree (parents_of path) path number
+
+-- One path is above another: the other goes on behind it.
+abbrev pub IsAbove : List Name → List Name → Type 0
+IsAbove above path = (name : Name) × (names : List Name) × (path ≡ above ++ name ∷ names)
+
+-- the data at a path, or none
+abbrev pub data_at : List Node → List Name → Option ℤ
+data_at tree path = unwrap_or (node_at tree path) None
+
+-- What a put makes of a tree: its path has the data, each path above it has a node with the data that it had or none, and
+-- every other path is as it was.
+pub record OnePut : Type 0 where
+  pub own : (tree : List Node) (path : List Name) (number : ℤ) → node_at (put tree path number) path ≡ Some (Some number)
+  pub above : (tree : List Node) (path : List Name) (number : ℤ) (other : List Name)
+      → IsAbove other path → node_at (put tree path number) other ≡ Some (data_at tree other)
+  pub others : (tree : List Node) (path : List Name) (number : ℤ) (other : List Name)
+      → other ≢ path → (IsAbove other path → ⊥) → node_at (put tree path number) other ≡ node_at tree other
 
 -- the greatest number of nodes without the root
 abbrev pub node_limit : ℕ
