@@ -1,4 +1,4 @@
--- What is told, and counts, for the crates above: over two calls, one after the other.
+-- What is told, for the crates above: over two calls, one after the other.
 use Rattle.std.proofs.Common.{◌≡◌, List, ◌++◌, Option, Some, None, refl, ap, ◌∙◌, append_assoc}
 use Rattle.kh_io.specs.Told.{Told, Kept, Extends}
 

@@ -5,7 +5,7 @@ use Rattle.std.proofs.lemmas.Bool.{cases_lt}
 use Rattle.std.proofs.lemmas.List.{append-nil, map-append, take_at}
 use Rattle.kh_io.specs.Call.{Call, Len, ReadAt}
 use Rattle.kh_io.specs.Told.{Told, Kept, Gains, Extends, IsFrontOf}
-use Rattle.kh_io.proofs.Telling.{told_map, told_both, told_same}
+use Rattle.kh_io.proofs.{told_map, told_both, told_same}
 use Rattle.kh_log.specs.Records.{length_of, Content, content_from, records_of, span, IsClosedAt, LacksAt}
 use Rattle.kh_log.specs.Calls.{unanswered, HasFailed, AreMade, FailAmong, gate_reads, open_calls, record_reads, records_reads}
 use Rattle.kh_log.proofs.Records.{content_of-front, with_records-is, length-front}

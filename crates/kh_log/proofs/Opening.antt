@@ -4,10 +4,11 @@ use Rattle.std.specs.Prelude.{IfSome, IfNone, OnOk, Result, Ok, Err}
 use Rattle.kh_io.specs.declared.files.Files.{Files}
 use Rattle.kh_io.specs.Disk.{file_of, put, Torn, IsSafe, Stays}
 use Rattle.kh_io.specs.Told.{Told}
-use Rattle.kh_io.proofs.Telling.{told_before, told_both}
+use Rattle.kh_io.proofs.{told_before, told_both}
 use Rattle.kh_log.specs.Records.{open_gate, Content, records_of, log_of, span, IsClosedAt}
 use Rattle.kh_log.specs.Log.{Place, Holds, ImagesAre, moved, begun_at, EndsAt, IsBeforeOrAfter, IsGroup, Appending, Writing, with_records}
 use Rattle.std.proofs.lemmas.List.{take_all}
+use Rattle.std.proofs.lemmas.Option.{same_Some}
 use Rattle.kh_log.proofs.Records.{span-append, length-front}
 use Rattle.kh_log.proofs.Append.{ends_at, at_span, nothing_split, Staged, group_of, torn_behind, written_behind, torn_gate, written_gate, put_gate}
 
@@ -92,10 +93,7 @@ ends_of log bytes holds closed = record {
 pub settled : {image : List ℕ → Type 0} (log : Place) (seen : Option (List ℕ)) (was : List ℕ) → seen ≡ Some was → Holds log was → IsClosedAt log.last was
     → IsSafe seen image → (bytes : List ℕ) → image bytes → EndsAt log.last (records_of was) bytes
 settled log seen was told holds closed safe bytes there =
-    subst (EndsAt log.last (records_of was)) (unwrapped was (sym told ∙ safe bytes there)) (ends_of log was holds closed)
-  where
-    unwrapped : (a : List ℕ) {b : List ℕ} → Some a ≡ Some b → a ≡ b
-    unwrapped a same = cc
+    subst (EndsAt log.last (records_of was)) (same_Some was bytes (sym told ∙ safe bytes there)) (ends_of log was holds closed)
 
 closed_before_end : (last : ℕ) (bytes : List ℕ) → IsClosedAt last bytes → last < length bytes
 closed_before_end last bytes closed = omega (arith, ap length closed.there, length-drop last bytes)

@@ -3,7 +3,7 @@ use Rattle.std.proofs.Common.{◌≡◌, ℕ, zero, suc, ◌+◌, ◌<◌, ◌�
 use Rattle.std.specs.Prelude.{slice_get}
 use Rattle.std.proofs.lemmas.List.{drop-drop}
 use Rattle.std.proofs.lemmas.Bool.{cases_lt}
-use Rattle.std.proofs.lemmas.Option.{slice_get_within}
+use Rattle.std.proofs.lemmas.Option.{slice_get_within, same_Some}
 use Rattle.kh_log.specs.Records.{length_of, Content, records_of, span}
 use Rattle.kh_log.proofs.Records.{behind_records, content_of-short}
 use Rattle.kh_log.proofs.Walk.{Nth, nth}
@@ -42,9 +42,6 @@ record_length bytes i r got =
     ] in
     let b = behind_records bytes some in
     let n : Nth rs i at bytes = subst (Nth rs i at) (sym b.split) (nth rs b.front b.rest i b.records b.some within) in
-    let same : n.bytes_of ≡ r = some_same (sym n.got ∙ got) in
+    let same : n.bytes_of ≡ r = same_Some n.bytes_of r (sym n.got ∙ got) in
     let behind : drop (at + 1) bytes ≡ n.opened.behind = sym (drop-drop 1 at bytes) ∙ ap (drop 1) n.opened.there in
     omega (arith, ap length_of behind, n.opened.next, ap length same)
-  where
-    some_same : {x y : List ℕ} → Some x ≡ Some y → x ≡ y
-    some_same e = cc

@@ -6,8 +6,7 @@ use Rattle.std.proofs.lemmas.Bool.{cases_lt}
 use Rattle.kh_io.specs.declared.files.Files.{Files}
 use Rattle.kh_io.specs.Told.{Told, Kept}
 use Rattle.kh_io.specs.Disk.{FilesStay, LeavesOnly}
-use Rattle.kh_io.proofs.Moments.{both, images_stay}
-use Rattle.kh_io.proofs.Telling.{told_both, told_map}
+use Rattle.kh_io.proofs.{both, images_stay, told_both, told_map}
 use Rattle.kh_log.specs.Records.{open_gate, length_of, Content, content_of, content_from, records_of, lacking_in, span, IsClosedAt, IsOpenAt, LacksAt, record_at}
 use Rattle.kh_log.specs.Log.{Place, Holds, passed, EndsAt, Reading}
 use Rattle.kh_log.proofs.Records.{behind_records, length_of-append, Front, with_records, with_records-is, content_of-front, content_of-short, nothing_behind, more_behind, lacking_step, front-append, length-front}

@@ -5,6 +5,7 @@ use Rattle.std.proofs.lemmas.Bool.{ltb-false, le-ltb, ne_eqb, eqb-true, eqb-fals
 use Rattle.std.proofs.lemmas.List.{take_at, drop_at, take-append-drop, length-append, length-take, append-nil}
 use Rattle.std.proofs.lemmas.Nat.{be_bytes_4, from_be_bytes-to_be_bytes_4, pow_pos}
 use Rattle.std.proofs.Math.Nat.{mod-lt}
+use Rattle.std.proofs.lemmas.Option.{same_Some}
 use borrow.Author.Tests.{eq-eqb}
 use Rattle.byteorder.specs.Endian.{big_number, twos_complement, low_bytes}
 use Rattle.byteorder.specs.Numbers.{big_from-lt, big_number-reads_back, length-bytes_high_first}
@@ -15,14 +16,14 @@ use Rattle.kh_term.specs.WellFormed.{fits_128, is_origin}
 use Rattle.kh_term.specs.Lemmas.Integers.{len_holds, bits_of, fits_behind_sign}
 use Rattle.kh_pack.specs.Reading.{◌>>=◌, first_at, front_at, count_at, fewest, integer_at, text_at, binary_at, origin_at}
 use Rattle.kh_pack.proofs.Numbers.{bytes_back, low_again, low_back}
-use Rattle.kh_pack.proofs.Steps.{IsBytes, IsBytes-drop, IsBytes-take, IsBytes-rest, bind_some, passed, allowed, some_is, Takes, Takes-then}
+use Rattle.kh_pack.proofs.Steps.{IsBytes, IsBytes-drop, IsBytes-take, IsBytes-rest, bind_some, passed, allowed, Takes, Takes-then}
 
 -- ---- one byte, and so many
 
 pub first_takes : (bytes : List ℕ) (x : ℕ × List ℕ) → IsBytes bytes → first_at bytes ≡ Some x → Takes bytes (x.0 ∷ []) x.1 × (x.0 < 256)
 first_takes [] x fits e = absurd cc
 first_takes (byte ∷ bytes) x fits e =
-    subst (λ (y : ℕ × List ℕ). Takes (byte ∷ bytes) (y.0 ∷ []) y.1 × (y.0 < 256)) (some_is (byte, bytes) x e)
+    subst (λ (y : ℕ × List ℕ). Takes (byte ∷ bytes) (y.0 ∷ []) y.1 × (y.0 < 256)) (same_Some (byte, bytes) x e)
     (record { parts = refl; rest_fits = IsBytes-rest byte bytes fits }, fits 0)
 
 pub record IsFront (len : ℕ) (bytes text rest : List ℕ) : Type 0 where
@@ -34,7 +35,7 @@ pub front_takes : (len : ℕ) (bytes : List ℕ) (x : List ℕ × List ℕ) → 
 front_takes len bytes x fits e =
     let a = passed (ltb (length bytes) len) (Some (take len bytes, drop len bytes)) x e in
     let long : len ≤ length bytes = ltb-false _ _ a.0 in
-    subst (λ (y : List ℕ × List ℕ). IsFront len bytes y.0 y.1) (some_is (take len bytes, drop len bytes) x a.1)
+    subst (λ (y : List ℕ × List ℕ). IsFront len bytes y.0 y.1) (same_Some (take len bytes, drop len bytes) x a.1)
     (record {
       takes = record { parts = sym (take-append-drop len bytes); rest_fits = IsBytes-drop len bytes fits };
       long = omega (arith, length-take len bytes);
@@ -56,7 +57,7 @@ count_takes bytes x fits e =
     let text = a.0.0 in
     let back : to_be_bytes w32 (from_be_bytes w32 text) ≡ text = be_bytes_4 text _ front.long front.text_fits refl in
     let small : from_be_bytes w32 text < 2 ^ 32 = omega (arith, front.text_fits 0, front.text_fits 1, front.text_fits 2, front.text_fits 3) in
-    subst (λ (y : ℕ × List ℕ). Takes bytes (to_be_bytes w32 y.0) y.1 × (y.0 < 2 ^ 32)) (some_is (from_be_bytes w32 text, a.0.1) x a.2)
+    subst (λ (y : ℕ × List ℕ). Takes bytes (to_be_bytes w32 y.0) y.1 × (y.0 < 2 ^ 32)) (same_Some (from_be_bytes w32 text, a.0.1) x a.2)
     (subst (λ (t : List ℕ). Takes bytes t a.0.1) (sym back) front.takes, small)
 
 pub count_again : (n : ℕ) (rest : List ℕ) → n < 2 ^ 32 → count_at (to_be_bytes w32 n ++ rest) ≡ Some (n, rest)
@@ -116,7 +117,7 @@ origin_takes bytes x fits e =
     let arity = first_takes b.0.1 c.0 name.0.rest_fits c.1 in
     let behind = Takes-then a.0.1 (short_text b.0.0) b.0.1 (c.0.0 ∷ []) c.0.1 name.0 arity.0 in
     let whole = Takes-then bytes (short_text a.0.0) a.0.1 (short_text b.0.0 ++ (c.0.0 ∷ [])) c.0.1 home.0 behind in
-    subst (λ (y : Origin × List ℕ). Takes bytes (origin_bytes y.0) y.1) (some_is (made a.0 b.0 c.0) x c.2) whole
+    subst (λ (y : Origin × List ℕ). Takes bytes (origin_bytes y.0) y.1) (same_Some (made a.0 b.0 c.0) x c.2) whole
 
 pub origin_again : (origin : Origin) (rest : List ℕ) → is_origin origin ≡ true
     → origin_at (short_text origin.module ++ (short_text origin.name ++ (origin.arity ∷ rest))) ≡ Some (origin, rest)

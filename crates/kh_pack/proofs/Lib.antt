@@ -1,10 +1,12 @@
-pub mod InTurn
-pub mod Integers
-pub mod Parts
-pub mod Loops
-pub mod Steps
-pub mod Numbers
-pub mod FieldsRead
-pub mod TermsRead
-pub mod TermsAgain
-pub mod Place
+-- For the crates above.
+pub use Rattle.kh_pack.proofs.Place.{stands_again, none_stands}
+mod InTurn
+mod Integers
+mod Parts
+mod Loops
+mod Steps
+mod Numbers
+mod FieldsRead
+mod TermsRead
+mod TermsAgain
+mod Place

@@ -2,6 +2,7 @@
 use Rattle.std.proofs.Common.{◌≡◌, ◌<◌, ◌≤◌, ◌+◌, ◌-◌, ℕ, List, ◌++◌, length, take, drop, Some, None, Ok, inl, refl, ap, sym, ◌∙◌, arith, length-append, length-drop}
 use Rattle.std.specs.Prelude.{slice_range}
 use Rattle.std.proofs.lemmas.List.{take_at, take-append-drop, drop-drop}
+use Rattle.std.proofs.lemmas.Option.{same_Some}
 use Rattle.kh_term.specs.declared.term.Term.{Term}
 use Rattle.kh_term.specs.declared.tree.TermTree.{TermTree}
 use Rattle.kh_term.specs.Packed.{packed_of}
@@ -9,7 +10,7 @@ use Rattle.kh_term.specs.Lemmas.Tags.{tagged}
 use Rattle.kh_term.specs.Lemmas.OneTree.{same_node}
 use Rattle.kh_pack.specs.Reading.{term_at}
 use Rattle.kh_pack.specs.Standing.{IsPackedAt, IsUnlessMemory}
-use Rattle.kh_pack.proofs.Steps.{IsBytes, IsBytes-drop, some_is}
+use Rattle.kh_pack.proofs.Steps.{IsBytes, IsBytes-drop}
 use Rattle.kh_pack.proofs.TermsRead.{term_read}
 use Rattle.kh_pack.proofs.TermsAgain.{term_again}
 
@@ -54,7 +55,7 @@ none_stands bytes at end left t is none stands =
 pub only_one : (bytes : List ℕ) (at end : ℕ) (left : List ℕ) (t read : Term) (rest : List ℕ) → left ≡ drop at bytes → term_at 256 left ≡ Some (read.node, rest)
     → IsPackedAt bytes at end t.node → IsUnlessMemory {X = Term × ℕ} (Ok (read, length bytes - length rest)) (t, end)
 only_one bytes at end left t read rest is e stands =
-    let both = some_is (read.node, rest) (t.node, drop end bytes) (sym e ∙ stands_again bytes at end left t is stands) in
+    let both = same_Some (read.node, rest) (t.node, drop end bytes) (sym e ∙ stands_again bytes at end left t is stands) in
     let node : read.node ≡ t.node = ap (λ (y : TermTree × List ℕ). y.0) both in
     let len : length rest ≡ length bytes - end = ap (λ (y : TermTree × List ℕ). length y.1) both ∙ length-drop end bytes in
     let place : length bytes - length rest ≡ end = omega (arith, stands.1) in

@@ -39,12 +39,6 @@ pub allowed : {A : Type 0} (test : Bool) (x y : A) → cond test (Some x) None �
 allowed true x y e = (refl, cc)
 allowed false x y e = absurd cc
 
-abbrev pub done : {A : Type 0} → A → Option A
-done x = Some x
-
-pub some_is : {A : Type 0} (x y : A) → done x ≡ done y → x ≡ y
-some_is x y e = cc
-
 -- what was taken from the front
 pub record Takes (bytes text rest : List ℕ) : Type 0 where
   pub parts : bytes ≡ text ++ rest

@@ -4,6 +4,7 @@ use Rattle.std.specs.Int.{w32, to_be_bytes}
 use Rattle.std.proofs.lemmas.Bool.{eqb-false, eqb-true, leb-true, and_parts}
 use Rattle.std.specs.Str.{is_utf8}
 use Rattle.std.proofs.lemmas.List.{append-nil}
+use Rattle.std.proofs.lemmas.Option.{same_Some}
 use Rattle.kh_term.specs.declared.name.Origin.{Origin}
 use Rattle.kh_term.specs.declared.tree.TermTree.{TermTree, out-TermTree}
 use Rattle.kh_term.specs.declared.tree.TermTree.TheOpen.{TermTree-F}
@@ -19,7 +20,7 @@ use Rattle.kh_term.specs.Lemmas.Layers.{depth-Int, depth-Atom, depth-Bin, depth-
 use Rattle.kh_term.specs.Lemmas.Tags.{tag_of, tagged}
 use Rattle.kh_pack.specs.Reading.{Read, ◌>>=◌, first_at, count_at, integer_at, text_at, binary_at, origin_at, many_at, pairs_at, tail_at, list_at, tuple_at, map_at, closure_at, flat_at, deep_at, term_at}
 use Rattle.kh_pack.proofs.FieldsRead.{first_takes, count_takes, text_takes, binary_takes, origin_bytes, origin_takes, integer_takes}
-use Rattle.kh_pack.proofs.Steps.{IsBytes, bind_some, passed, some_is, Takes, Takes-then}
+use Rattle.kh_pack.proofs.Steps.{IsBytes, bind_some, passed, Takes, Takes-then}
 
 -- a term that was read
 pub record IsRead (depth : ℕ) (bytes : List ℕ) (t : TermTree) (rest : List ℕ) : Type 0 where
@@ -61,7 +62,7 @@ many_read : (depth : ℕ) (one : List ℕ → Read TermTree) → Reads depth one
     → IsBytes bytes → many_at one count before bytes ≡ Some x → AreRead depth count before bytes x.0 x.1
 unfolding many_at
 many_read depth one reads zero before bytes x fits e =
-    subst (λ (y : List TermTree × List ℕ). AreRead depth 0 before bytes y.0 y.1) (some_is (before, bytes) x e)
+    subst (λ (y : List TermTree × List ℕ). AreRead depth 0 before bytes y.0 y.1) (same_Some (before, bytes) x e)
     (record { parts = []; are = sym (append-nil before); number = refl; takes = record { parts = refl; rest_fits = fits }; shallow = omega arith; narrow = omega arith })
 many_read depth one reads (suc count) before bytes x fits e =
     let a = bind_some (one bytes) (λ part. many_at one count (before ++ part.0 ∷ []) part.1) x e in
@@ -97,7 +98,7 @@ pairs_read : (depth : ℕ) (one : List ℕ → Read TermTree) → Reads depth on
     → IsBytes bytes → pairs_at one count before bytes ≡ Some x → ArePairsRead depth count before bytes x.0 x.1
 unfolding pairs_at
 pairs_read depth one reads zero before bytes x fits e =
-    subst (λ (y : TermPairs × List ℕ). ArePairsRead depth 0 before bytes y.0 y.1) (some_is (before, bytes) x e)
+    subst (λ (y : TermPairs × List ℕ). ArePairsRead depth 0 before bytes y.0 y.1) (same_Some (before, bytes) x e)
     (record { parts = []; are = sym (append-nil before); number = refl; takes = record { parts = refl; rest_fits = fits }; shallow = omega arith; narrow = omega arith })
 pairs_read depth one reads (suc count) before bytes x fits e =
     let next : TermTree × List ℕ → TermTree × List ℕ → Read TermPairs = λ key value. cond (rises_after before key.0) (pairs_at one count (before ++ (key.0, value.0) ∷ []) value.1) None in
@@ -147,7 +148,7 @@ tail_read depth one reads (tag ∷ bytes) x fits e = go (eqb tag 4) refl e
     go true is f =
         let tag_is : tag ≡ 4 = eqb-true tag 4 is in
         let spelled : tag ∷ bytes ≡ packed_of tree.Nil ++ bytes = ap (λ n. n ∷ bytes) tag_is ∙ sym (ap (λ t. t ++ bytes) packed-Nil) in
-        subst (λ (y : TermTree × List ℕ). IsTailRead depth (tag ∷ bytes) y.0 y.1) (some_is (tree.Nil, bytes) x f)
+        subst (λ (y : TermTree × List ℕ). IsTailRead depth (tag ∷ bytes) y.0 y.1) (same_Some (tree.Nil, bytes) x f)
         (record {
           takes = record { parts = spelled; rest_fits = λ i. fits (suc i) };
           no_list = ap is_list outs-Nil;
@@ -191,7 +192,7 @@ list_read depth one reads bytes x fits e =
     let many = many_read depth one reads n [] a.0.1 c.0 count.0.rest_fits c.1 in
     let end = tail_read depth one reads c.0.1 d.0 many.takes.rest_fits d.1 in
     let some = eqb-false n 0 b.0 in
-    let is : made (many.parts, c.0.1) d.0 ≡ x = ap (λ (ts : List TermTree). made (ts, c.0.1) d.0) (sym many.are) ∙ some_is (made c.0 d.0) x d.2 in
+    let is : made (many.parts, c.0.1) d.0 ≡ x = ap (λ (ts : List TermTree). made (ts, c.0.1) d.0) (sym many.are) ∙ same_Some (made c.0 d.0) x d.2 in
     let list : list_with_tail many.parts tail ≡ tree.List many.parts tail = list_made many.parts tail (omega (arith, some, many.number)) end.no_list in
     let behind = Takes-then a.0.1 (all_packed_of many.parts) c.0.1 (packed_of tail) d.0.1 many.takes end.takes in
     let whole = Takes-then bytes (to_be_bytes w32 n) a.0.1 (all_packed_of many.parts ++ packed_of tail) d.0.1 count.0 behind in
@@ -213,7 +214,7 @@ tuple_read depth one reads bytes x fits e =
     let b = bind_some (many_at one n [] a.0.1) (λ parts. Some (tree.Tuple parts.0, parts.1)) x a.2 in
     let count = count_takes bytes a.0 fits a.1 in
     let many = many_read depth one reads n [] a.0.1 b.0 count.0.rest_fits b.1 in
-    let is : (tree.Tuple many.parts, b.0.1) ≡ x = ap (λ (ts : List TermTree). (tree.Tuple ts, b.0.1)) (sym many.are) ∙ some_is (tree.Tuple b.0.0, b.0.1) x b.2 in
+    let is : (tree.Tuple many.parts, b.0.1) ≡ x = ap (λ (ts : List TermTree). (tree.Tuple ts, b.0.1)) (sym many.are) ∙ same_Some (tree.Tuple b.0.0, b.0.1) x b.2 in
     subst (AsRead (suc depth) 6 bytes) is (record {
       text = to_be_bytes w32 n ++ all_packed_of many.parts;
       spelled = packed-Tuple many.parts ∙ ap (λ m. 6 ∷ (to_be_bytes w32 m ++ all_packed_of many.parts)) many.number;
@@ -230,7 +231,7 @@ map_read depth one reads bytes x fits e =
     let b = bind_some (pairs_at one n [] a.0.1) (λ pairs. Some (tree.Map pairs.0, pairs.1)) x a.2 in
     let count = count_takes bytes a.0 fits a.1 in
     let many = pairs_read depth one reads n [] a.0.1 b.0 count.0.rest_fits b.1 in
-    let is : (tree.Map many.parts, b.0.1) ≡ x = ap (λ (ps : TermPairs). (tree.Map ps, b.0.1)) (sym many.are) ∙ some_is (tree.Map b.0.0, b.0.1) x b.2 in
+    let is : (tree.Map many.parts, b.0.1) ≡ x = ap (λ (ps : TermPairs). (tree.Map ps, b.0.1)) (sym many.are) ∙ same_Some (tree.Map b.0.0, b.0.1) x b.2 in
     subst (AsRead (suc depth) 7 bytes) is (record {
       text = to_be_bytes w32 n ++ pairs_packed_of many.parts;
       spelled = packed-Map many.parts ∙ ap (λ m. 7 ∷ (to_be_bytes w32 m ++ pairs_packed_of many.parts)) many.number;
@@ -259,7 +260,7 @@ closure_read depth one reads bytes x fits e =
     let origin = origin_takes bytes a.0 fits a.1 in
     let first = first_takes a.0.1 b.0 origin.rest_fits b.1 in
     let many = many_read depth one reads n [] b.0.1 d.0 first.0.rest_fits d.1 in
-    let is : (tree.Closure o many.parts, d.0.1) ≡ x = ap (λ (ts : List TermTree). (tree.Closure o ts, d.0.1)) (sym many.are) ∙ some_is (tree.Closure o d.0.0, d.0.1) x d.2 in
+    let is : (tree.Closure o many.parts, d.0.1) ≡ x = ap (λ (ts : List TermTree). (tree.Closure o ts, d.0.1)) (sym many.are) ∙ same_Some (tree.Closure o d.0.0, d.0.1) x d.2 in
     let behind = Takes-then a.0.1 (n ∷ []) b.0.1 (all_packed_of many.parts) d.0.1 first.0 many.takes in
     subst (AsRead (suc depth) 8 bytes) is (record {
       text = origin_bytes o ++ (n ∷ all_packed_of many.parts);
@@ -288,7 +289,7 @@ tagged_so depth tag known bytes x is read = subst (λ n. AsRead depth n bytes x)
 int_read : (depth : ℕ) (bytes : List ℕ) (x : TermTree × List ℕ) → IsBytes bytes → (integer_at bytes >>= λ n. Some (tree.Int n.0, n.1)) ≡ Some x → AsRead depth 1 bytes x
 int_read depth bytes x fits e =
     let a = bind_some (integer_at bytes) (λ n. Some (tree.Int n.0, n.1)) x e in
-    subst (AsRead depth 1 bytes) (some_is (tree.Int a.0.0, a.0.1) x a.2) (record {
+    subst (AsRead depth 1 bytes) (same_Some (tree.Int a.0.0, a.0.1) x a.2) (record {
       text = integer_len a.0.0 ∷ integer_bytes a.0.0;
       spelled = packed-Int a.0.0;
       takes = integer_takes bytes a.0 fits a.1;
@@ -301,7 +302,7 @@ atom_read depth bytes x fits e =
     let a = bind_some (text_at bytes) (λ text. Some (tree.Atom text.0, text.1)) x e in
     let taken = text_takes bytes a.0 fits a.1 in
     let few = leb-true (length a.0.0) 255 (and_parts (leb (length a.0.0) 255) (is_utf8 a.0.0) taken.1).0 in
-    subst (AsRead depth 2 bytes) (some_is (tree.Atom a.0.0, a.0.1) x a.2) (record {
+    subst (AsRead depth 2 bytes) (same_Some (tree.Atom a.0.0, a.0.1) x a.2) (record {
       text = short_text a.0.0;
       spelled = packed-Atom a.0.0;
       takes = taken.0;
@@ -313,7 +314,7 @@ bin_read : (depth : ℕ) (bytes : List ℕ) (x : TermTree × List ℕ) → IsByt
 bin_read depth bytes x fits e =
     let a = bind_some (binary_at bytes) (λ text. Some (tree.Bin text.0, text.1)) x e in
     let taken = binary_takes bytes a.0 fits a.1 in
-    subst (AsRead depth 3 bytes) (some_is (tree.Bin a.0.0, a.0.1) x a.2) (record {
+    subst (AsRead depth 3 bytes) (same_Some (tree.Bin a.0.0, a.0.1) x a.2) (record {
       text = to_be_bytes w32 (length a.0.0) ++ a.0.0;
       spelled = packed-Bin a.0.0;
       takes = taken.0;
@@ -345,7 +346,7 @@ flat_read depth tag bytes x fits e = go (way _ _ _ x e)
 
 nil_read : (depth : ℕ) (bytes : List ℕ) (x : TermTree × List ℕ) → IsBytes bytes → Some (tree.Nil, bytes) ≡ Some x → AsRead (suc depth) 4 bytes x
 nil_read depth bytes x fits e =
-    subst (AsRead (suc depth) 4 bytes) (some_is (tree.Nil, bytes) x e) (record {
+    subst (AsRead (suc depth) 4 bytes) (same_Some (tree.Nil, bytes) x e) (record {
       text = [];
       spelled = packed-Nil;
       takes = record { parts = refl; rest_fits = fits };

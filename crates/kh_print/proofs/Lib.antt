@@ -1,4 +1,4 @@
-pub mod Hex
-pub mod InTurn
-pub mod Joined
-pub mod Layers
+mod Hex
+mod InTurn
+mod Joined
+mod Layers

@@ -5,7 +5,7 @@ use Rattle.std.specs.Char.{is_ascii_digit, is_ascii_lowercase}
 use Rattle.std.specs.List.{prefix_len, list_all}
 use Rattle.std.specs.Str.{all_ascii_digits}
 use Rattle.std.specs.Str.Parse.{digits_value}
-use Rattle.std.proofs.lemmas.Bool.{le-ltb, leb-true, ne_eqb, not-true}
+use Rattle.std.proofs.lemmas.Bool.{and_parts, le-ltb, leb-true, ne_eqb, not-true}
 use Rattle.std.proofs.lemmas.Bool.Decides.{nat_tests}
 use Rattle.std.proofs.lemmas.List.{take_at, drop_at}
 use Rattle.kh_term.specs.declared.name.Name.{Name}
@@ -17,7 +17,7 @@ use Rattle.kh_read.specs.declared.form.Form.{Form}
 use Rattle.kh_read.specs.declared.form.Form.TheVariants as form
 use Rattle.kh_read.specs.Form.{is_plain_name, is_plain_path, are_digits, IsInteger, IsForm}
 use Rattle.kh_read.specs.Reading.{◌>>=◌, Read, Fault, front_at, word_at, name_at, names_at, digits_at, integer_at, put_at, get_at, form_at}
-use Rattle.kh_read.proofs.Digits.{both, digits_are, all_digits-list_all}
+use Rattle.kh_read.proofs.Digits.{digits_are, all_digits-list_all}
 use Rattle.kh_read.proofs.Words.{lowercase_word}
 use Rattle.kh_read.proofs.FormRead.{put_text-append, get_text-append}
 
@@ -26,7 +26,7 @@ front_len : (test : ℕ → Bool) (text : List ℕ) (end : ℕ) (rest : List ℕ
     → prefix_len test (text ++ end ∷ rest) ≡ length text
 front_len test [] end rest each stops = rw stops refl
 front_len test (byte ∷ text) end rest each stops =
-    let parts = both (test byte) (list_all test text) each in
+    let parts = and_parts (test byte) (list_all test text) each in
     let others = front_len test text end rest parts.1 stops in
     rw (parts.0, others) (omega arith)
 
@@ -54,8 +54,8 @@ pub word_again : (text : List ℕ) (end : ℕ) (rest : List ℕ) → is_plain te
 unfolding word_at
 word_again [] end rest plain few stops = absurd cc
 word_again (first ∷ others) end rest plain few stops =
-    let parts = both (is_plain_word (first ∷ others)) (not (is_reserved (first ∷ others))) plain in
-    let word = both (is_ascii_lowercase first) (list_all is_word_byte others) parts.0 in
+    let parts = and_parts (is_plain_word (first ∷ others)) (not (is_reserved (first ∷ others))) plain in
+    let word = and_parts (is_ascii_lowercase first) (list_all is_word_byte others) parts.0 in
     let each : list_all is_word_byte (first ∷ others) ≡ true = rw (lowercase_word first word.0) word.1 in
     let free : is_reserved (first ∷ others) ≡ false = not-true _ parts.1 in
     word_step (is_ascii_lowercase first) (front_at is_word_byte 255 ((first ∷ others) ++ end ∷ rest)) (first ∷ others, end ∷ rest) word.0
@@ -65,7 +65,7 @@ name_again : (n : Name) (end : ℕ) (rest : List ℕ) → is_plain_name n ≡ tr
     → name_at (name_text n ++ end ∷ rest) ≡ Ok (n, end ∷ rest)
 unfolding name_at
 name_again (name.Atom text) end rest plain stops =
-    let parts = both (is_plain text) (leb (length text) 255) plain in
+    let parts = and_parts (is_plain text) (leb (length text) 255) plain in
     rw (word_again text end rest parts.0 (leb-true _ _ parts.1) stops) refl
 name_again (name.Bin bytes) end rest plain stops = absurd cc
 
@@ -75,10 +75,10 @@ unfolding names_at
 names_again zero names rest some few plain = absurd (omega arith)
 names_again (suc room) [] rest some few plain = absurd (omega arith)
 names_again (suc room) (first ∷ []) rest some few plain =
-    let parts = both (is_plain_name first) true plain in
+    let parts = and_parts (is_plain_name first) true plain in
     rw (name_again first 93 rest parts.0 refl) refl
 names_again (suc room) (first ∷ second ∷ others) rest some few plain =
-    let parts = both (is_plain_name first) (list_all is_plain_name (second ∷ others)) plain in
+    let parts = and_parts (is_plain_name first) (list_all is_plain_name (second ∷ others)) plain in
     let later = with_commas (map name_text (second ∷ others)) ++ 93 ∷ rest in
     rw (
       append_assoc (name_text first) (44 ∷ with_commas (map name_text (second ∷ others))) (93 ∷ rest),
@@ -102,7 +102,7 @@ unfolding integer_at
 positive_again [] end rest are stops = absurd cc
 positive_again (byte ∷ digits) end rest are stops =
     let known = digits_are (byte ∷ digits) are in
-    let first = both (is_ascii_digit byte) (all_ascii_digits digits) known.each in
+    let first = and_parts (is_ascii_digit byte) (all_ascii_digits digits) known.each in
     rw (digit_no_minus byte first.0, digits_again (byte ∷ digits) end rest are stops) refl
 
 pub integer_again : (text : List ℕ) (number : ℤ) (end : ℕ) (rest : List ℕ) → IsInteger text number → is_word_byte end ≡ false
@@ -113,8 +113,8 @@ integer_again text number end rest (digits, are, inr (is, value)) stops = rw (is
 
 path_parts : (path : List Name) → is_plain_path path ≡ true → (1 ≤ length path) × (length path ≤ 32) × (list_all is_plain_name path ≡ true)
 path_parts path plain =
-    let outer = both (leb 1 (length path) && leb (length path) 32) (list_all is_plain_name path) plain in
-    let inner = both (leb 1 (length path)) (leb (length path) 32) outer.0 in
+    let outer = and_parts (leb 1 (length path) && leb (length path) 32) (list_all is_plain_name path) plain in
+    let inner = and_parts (leb 1 (length path)) (leb (length path) 32) outer.0 in
     (leb-true _ _ inner.0, leb-true _ _ inner.1, outer.1)
 
 put_again : (path : List Name) (integer : List ℕ) (number : ℤ) (rest : List ℕ) → IsInteger integer number → is_plain_path path ≡ true

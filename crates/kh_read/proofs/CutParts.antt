@@ -5,7 +5,7 @@ use Rattle.std.specs.Char.{is_ascii_digit, is_ascii_lowercase}
 use Rattle.std.specs.List.{prefix_len, list_all, list_any}
 use Rattle.std.specs.Str.{bytes_eq}
 use Rattle.std.specs.Str.Parse.{digits_value}
-use Rattle.std.proofs.lemmas.Bool.{ltb-false, leb-true, eqb-true, or_from, and_left, and_right, not-true, not-false}
+use Rattle.std.proofs.lemmas.Bool.{ltb-false, leb-true, eqb-true, or_from, and_left, and_parts, and_right, not-true, not-false}
 use Rattle.std.proofs.lemmas.List.{take_all}
 use Rattle.std.proofs.lemmas.List.Folds.{list_all-append}
 use Rattle.std.proofs.lemmas.Slice.Eq.{bytes_eq-Decides}
@@ -13,7 +13,7 @@ use Rattle.kh_term.specs.declared.name.Name.{Name}
 use Rattle.kh_term.specs.declared.name.Name.TheVariants as name
 use Rattle.kh_text_defs.specs.Atoms.{is_word_byte, is_reserved, reserved_words}
 use Rattle.kh_read.specs.Reading.{◌>>=◌, Read, Cut, Fault, front_at, word_at, name_at, comma_at, names_at, digits_at, integer_at}
-use Rattle.kh_read.proofs.Digits.{both, are_digits_from}
+use Rattle.kh_read.proofs.Digits.{are_digits_from}
 use Rattle.kh_read.proofs.Fronts.{front_passes}
 use Rattle.kh_read.proofs.Grows.{name_grows, negative_at, positive_at, behind_name}
 use Rattle.kh_read.proofs.Again.{word_again, digits_again, integer_again}
@@ -54,14 +54,14 @@ has_no_underscore = list_all (λ b. not (eqb 95 b))
 -- a word that doesn't have `_` doesn't end in it
 other_word : (text word : List ℕ) → has_no_underscore word ≡ true → bytes_eq (text ++ 95 ∷ []) word ≡ false
 other_word [] [] free = refl
-other_word [] (b ∷ word) free = and_left _ _ (not-true _ (both (not (eqb 95 b)) (has_no_underscore word) free).0)
+other_word [] (b ∷ word) free = and_left _ _ (not-true _ (and_parts (not (eqb 95 b)) (has_no_underscore word) free).0)
 other_word (t ∷ text) [] free = refl
-other_word (t ∷ text) (b ∷ word) free = and_right _ _ (other_word text word (both (not (eqb 95 b)) (has_no_underscore word) free).1)
+other_word (t ∷ text) (b ∷ word) free = and_right _ _ (other_word text word (and_parts (not (eqb 95 b)) (has_no_underscore word) free).1)
 
 other_words : (text : List ℕ) (words : List (List ℕ)) → list_all has_no_underscore words ≡ true → list_any (bytes_eq (text ++ 95 ∷ [])) words ≡ false
 other_words text [] free = refl
 other_words text (word ∷ words) free =
-    let parts = both (has_no_underscore word) (list_all has_no_underscore words) free in
+    let parts = and_parts (has_no_underscore word) (list_all has_no_underscore words) free in
     or_from _ _ (other_word text word parts.0) (other_words text words parts.1)
 
 short_step : (text word : List ℕ) (words : List (List ℕ)) (same : Bool) → bytes_eq text word ≡ same → length word ≤ 254
@@ -73,7 +73,7 @@ short_step text word words false is few next among = next among
 short_word : (text : List ℕ) (words : List (List ℕ)) → list_all (λ w. leb (length w) 254) words ≡ true → list_any (bytes_eq text) words ≡ true → length text ≤ 254
 short_word text [] short among = absurd cc
 short_word text (word ∷ words) short among =
-    let parts = both (leb (length word) 254) (list_all (λ w. leb (length w) 254) words) short in
+    let parts = and_parts (leb (length word) 254) (list_all (λ w. leb (length w) 254) words) short in
     short_step text word words (bytes_eq text word) refl (leb-true _ _ parts.0) (short_word text words parts.1) among
 
 -- a plain word, reserved or not, made whole
@@ -102,7 +102,7 @@ word_mends [] cut = record { more = 97 ∷ []; value = 97 ∷ []; reads = λ end
 word_mends (first ∷ others) cut =
     let a = cut_behind (not (is_ascii_lowercase first)) _ cut in
     let front = front_cut is_word_byte 255 (first ∷ others) (tested_cut is_reserved _ a.1) in
-    let each = both (is_word_byte first) (list_all is_word_byte others) front.0 in
+    let each = and_parts (is_word_byte first) (list_all is_word_byte others) front.0 in
     word_whole first others (is_reserved (first ∷ others)) refl (not-false _ a.0) each.1 front.1
 
 pub name_mends : Mends name_at

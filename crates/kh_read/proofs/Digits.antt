@@ -1,20 +1,15 @@
 -- What a text of digits is.
-use Rattle.std.proofs.Common.{◌≡◌, ℕ, ◌<◌, ◌≤◌, ◌^◌, Bool, true, false, ◌&&◌, leb, eqb, List, [], ◌∷◌, length, get_or, refl, ap, arith}
+use Rattle.std.proofs.Common.{◌≡◌, ℕ, ◌<◌, ◌≤◌, ◌^◌, true, false, ◌&&◌, leb, eqb, List, [], ◌∷◌, length, get_or, refl, ap, arith}
 use Rattle.std.specs.Char.{is_ascii_digit}
 use Rattle.std.specs.List.{list_all}
 use Rattle.std.specs.Str.{all_ascii_digits, IsUtf8}
 use Rattle.std.specs.Str.Parse.{AllDigits, IsNumeral, digits_value, without_leading_plus}
-use Rattle.std.proofs.lemmas.Bool.{leb-true, le-leb}
+use Rattle.std.proofs.lemmas.Bool.{and_parts, leb-true, le-leb}
 use Rattle.std.proofs.lemmas.Bool.Decides.{nat_tests}
 use Rattle.std.proofs.lemmas.Str.{IsUtf8-from_ascii}
 use Rattle.std.proofs.lemmas.Fmt.{IsAscii-from_digits}
 use Rattle.std.proofs.lemmas.Str.Parse.{IsNumeralModel, numerals_by_value, tells_all_ascii_digits, digits_value_short, digit_at}
 use Rattle.kh_read.specs.Form.{are_digits}
-
--- both parts of a test hold
-pub both : (a b : Bool) → (a && b) ≡ true → (a ≡ true) × (b ≡ true)
-both true b h = (refl, h)
-both false b h = absurd cc
 
 -- what `are_digits` tests
 pub record AreDigits (text : List ℕ) : Type 0 where
@@ -24,8 +19,8 @@ pub record AreDigits (text : List ℕ) : Type 0 where
 
 pub digits_are : (text : List ℕ) → are_digits text ≡ true → AreDigits text
 digits_are text h =
-    let outer = both (leb 1 (length text) && leb (length text) 18) (all_ascii_digits text) h in
-    let inner = both (leb 1 (length text)) (leb (length text) 18) outer.0 in
+    let outer = and_parts (leb 1 (length text) && leb (length text) 18) (all_ascii_digits text) h in
+    let inner = and_parts (leb 1 (length text)) (leb (length text) 18) outer.0 in
     record { some = leb-true _ _ inner.0; few = leb-true _ _ inner.1; each = outer.1 }
 
 abbrev own : IsNumeralModel (λ ds. all_ascii_digits ds ≡ true) (digits_value 10)

@@ -1,15 +1,21 @@
-pub mod Steps
-pub mod Fronts
-pub mod Digits
-pub mod Names
-pub mod Words
-pub mod NamesRead
-pub mod Paths
-pub mod FormRead
-pub mod Grows
-pub mod Place
-pub mod Again
-pub mod Mends
-pub mod CutParts
-pub mod CutForms
-pub mod Stands
+-- For the crates above.
+pub use Rattle.kh_read.proofs.Steps.{bind_ok, ok_is}
+pub use Rattle.kh_read.proofs.Place.{form_shorter}
+pub use Rattle.kh_read.proofs.Paths.{plain_names_are_names}
+pub use Rattle.kh_read.proofs.Grows.{form_grows}
+pub use Rattle.kh_read.proofs.FormRead.{form_read}
+mod Steps
+mod Fronts
+mod Digits
+mod Names
+mod Words
+mod NamesRead
+mod Paths
+mod FormRead
+mod Grows
+mod Place
+mod Again
+mod Mends
+mod CutParts
+mod CutForms
+mod Stands

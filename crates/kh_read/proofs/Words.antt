@@ -3,14 +3,13 @@ use Rattle.std.proofs.Common.{◌≡◌, ℕ, zero, suc, ◌+◌, ◌<◌, ◌�
 use Rattle.std.specs.Char.{is_ascii_lowercase}
 use Rattle.std.specs.List.{prefix_len, list_all}
 use Rattle.std.specs.Str.{IsAscii}
-use Rattle.std.proofs.lemmas.Bool.{le-leb, not-false}
+use Rattle.std.proofs.lemmas.Bool.{and_parts, le-leb, not-false}
 use Rattle.std.proofs.lemmas.Bool.Decides.{nat_tests}
 use Rattle.std.proofs.lemmas.Str.{IsUtf8-from_ascii, is_utf8-from_IsUtf8}
 use Rattle.kh_term.specs.Text.{is_atom_text}
 use Rattle.kh_text_defs.specs.Atoms.{is_word_byte, is_plain_word, is_reserved, is_plain}
 use Rattle.kh_read.specs.Reading.{Fault, front_at, word_at}
 use Rattle.kh_read.proofs.Fronts.{front_passes, front_read}
-use Rattle.kh_read.proofs.Digits.{both}
 use Rattle.kh_read.proofs.Steps.{passed, bind_ok, ok_is}
 
 word_byte_below : (byte : ℕ) → is_word_byte byte ≡ true → byte < 128
@@ -19,8 +18,8 @@ word_byte_below byte h = grind (arith, nat_tests)
 -- letters, digits, `_` and `@` are ASCII
 pub word_ascii : (text : List ℕ) → list_all is_word_byte text ≡ true → IsAscii text
 word_ascii [] h i = omega arith
-word_ascii (byte ∷ text) h zero = word_byte_below byte (both (is_word_byte byte) (list_all is_word_byte text) h).0
-word_ascii (byte ∷ text) h (suc i) = word_ascii text (both (is_word_byte byte) (list_all is_word_byte text) h).1 i
+word_ascii (byte ∷ text) h zero = word_byte_below byte (and_parts (is_word_byte byte) (list_all is_word_byte text) h).0
+word_ascii (byte ∷ text) h (suc i) = word_ascii text (and_parts (is_word_byte byte) (list_all is_word_byte text) h).1 i
 
 -- at most 255 of them are the text of an atom
 pub word_is_atom_text : (text : List ℕ) → list_all is_word_byte text ≡ true → length text ≤ 255 → is_atom_text text ≡ true

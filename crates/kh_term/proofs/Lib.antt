@@ -1,7 +1,9 @@
-pub mod Bounds
-pub mod Examples
-pub mod Lengths
-pub mod PathLemmas
-pub mod Places
-pub mod Same
-pub mod Spelling
+-- For the crates above.
+pub use Rattle.kh_term.proofs.Spelling.{one_spelling}
+mod Bounds
+mod Examples
+mod Lengths
+mod PathLemmas
+mod Places
+mod Same
+mod Spelling

@@ -8,10 +8,8 @@ use Rattle.kh_read.specs.declared.form.Form.{Form}
 use Rattle.kh_read.specs.declared.form.Form.TheVariants as form
 use Rattle.kh_read.specs.Form.{is_plain_name, is_plain_path, IsForm}
 use Rattle.kh_read.specs.Reading.{Cut, Fault, form_at}
-use Rattle.kh_read.proofs.Digits.{both}
-use Rattle.kh_read.proofs.FormRead.{form_read}
-use Rattle.kh_read.proofs.Paths.{plain_names_are_names}
-use Rattle.kh_read.proofs.Steps.{bind_ok, ok_is}
+use Rattle.std.proofs.lemmas.Bool.{and_parts}
+use Rattle.kh_read.proofs.{form_read, plain_names_are_names, bind_ok, ok_is}
 use Rattle.khepri.specs.Command.{is_atom, is_atom_path, is_command}
 use Rattle.khepri.specs.Script.{behind_form, line_at}
 
@@ -22,13 +20,13 @@ plain_name_is_atom (name.Bin bytes) h = absurd cc
 plain_names_are_atoms : (names : List Name) → list_all is_plain_name names ≡ true → list_all is_atom names ≡ true
 plain_names_are_atoms [] h = refl
 plain_names_are_atoms (n ∷ names) h =
-    let parts = both (is_plain_name n) (list_all is_plain_name names) h in
+    let parts = and_parts (is_plain_name n) (list_all is_plain_name names) h in
     rw (plain_name_is_atom n parts.0, plain_names_are_atoms names parts.1) refl
 
 plain_path_is_atoms : (path : List Name) → is_plain_path path ≡ true → is_atom_path path ≡ true
 plain_path_is_atoms path h =
-    let parts = both (leb 1 (length path) && leb (length path) 32) (list_all is_plain_name path) h in
-    let lengths = both (leb 1 (length path)) (leb (length path) 32) parts.0 in
+    let parts = and_parts (leb 1 (length path) && leb (length path) 32) (list_all is_plain_name path) h in
+    let lengths = and_parts (leb 1 (length path)) (leb (length path) 32) parts.0 in
     rw (lengths.0, lengths.1, plain_names_are_names path parts.1, plain_names_are_atoms path parts.1) refl
 
 is_command_of : (text : List ℕ) (f : Form) → IsForm text f → IsTrue (is_command f)

@@ -4,8 +4,7 @@ use Rattle.std.proofs.lemmas.List.{append-nil}
 use Rattle.kh_io.specs.declared.files.Files.{Files}
 use Rattle.kh_io.specs.Told.{Kept, Extends, IsFrontOf}
 use Rattle.kh_io.specs.Disk.{LeavesOnly}
-use Rattle.kh_io.proofs.Moments.{both, weakened}
-use Rattle.kh_io.proofs.Telling.{told_map, told_both}
+use Rattle.kh_io.proofs.{both, weakened, told_map, told_both}
 use Rattle.kh_read.specs.declared.form.Form.{Form}
 use Rattle.khepri.specs.State.{State, store_after}
 use Rattle.khepri.specs.Recovery.{Recovered, Recovers}

@@ -6,10 +6,10 @@ use Rattle.std.proofs.lemmas.List.{append-nil, take-append-drop}
 use Rattle.std.proofs.lemmas.List.Elements.{All-nil, All-cons, All-head, All-tail, All-push, All-append}
 use Rattle.kh_io.specs.Call.{Call, Take, Give, Len, ReadAt, WriteAt, Cut, Sync}
 use Rattle.kh_io.specs.Told.{Told, Kept, Gains, Extends}
-use Rattle.kh_io.proofs.Telling.{told_map, told_both, extends_both}
+use Rattle.kh_io.proofs.{told_map, told_both, extends_both}
 use Rattle.kh_log.specs.Records.{records_of, span as records_span}
 use Rattle.kh_log.specs.Calls.{unanswered, HasFailed, AreMade, FailAmong, gate_reads, open_calls, record_reads, records_reads, Grows}
-use Rattle.kh_log.proofs.Calling.{no_calls, fail_one, fail_later}
+use Rattle.kh_log.proofs.{no_calls, fail_one, fail_later}
 use Rattle.khepri.specs.Damage.{taken_by, taken_in, FailInside}
 use Rattle.khepri.specs.Opening.{ReadsLog, all_synced, empty_written, begun_in, OpenedBy}
 

@@ -17,8 +17,8 @@ use Rattle.kh_term.specs.Make.{name_tree, path_tree}
 use Rattle.kh_term.specs.Packed.{packed_of}
 use Rattle.kh_term.specs.WellFormed.{IsTerm, faults_of}
 use Rattle.kh_pack.specs.Reading.{Read, term_at}
-use Rattle.kh_pack.proofs.Place.{stands_again, none_stands}
-use Rattle.kh_pack.proofs.Steps.{some_is}
+use Rattle.kh_pack.proofs.{stands_again, none_stands}
+use Rattle.std.proofs.lemmas.Option.{same_Some}
 use Rattle.khepri.specs.Command.{put_parts, put_command, put_bytes, is_atom, is_atom_path, IsPut}
 use Rattle.khepri.proofs.Puts.{layers, list_same, tuple_same, names_same, no_names, untrue, put_stands, command_of}
 
@@ -195,7 +195,7 @@ put_or_not bytes = go (term_at 256 bytes) refl
     go None e = inr (λ p is. none_stands bytes 0 (length bytes) bytes (command_of bytes p.0 p.1 is) refl e (put_stands bytes p.0 p.1 is))
     go (Some x) e =
         let seen : (p : Put) → IsPut bytes p.0 p.1 → x.0 ≡ put_command p.0 p.1 =
-        λ p is. ap (λ (y : TermTree × List ℕ). y.0) (some_is x (put_command p.0 p.1, drop (length bytes) bytes)
+        λ p is. ap (λ (y : TermTree × List ℕ). y.0) (same_Some x (put_command p.0 p.1, drop (length bytes) bytes)
         (sym e ∙ stands_again bytes 0 (length bytes) bytes (command_of bytes p.0 p.1 is) refl (put_stands bytes p.0 p.1 is))) in
         elim (put_in x.0) [
           | inl p ↦

@@ -2,14 +2,14 @@
 use Rattle.std.proofs.Common.{◌≡◌, ℕ, ◌<◌, List, [], ◌∷◌, ◌++◌, Option, Some, None, refl, sym, ap, subst, ◌∙◌, inl, inr, ◌⊎◌, arith}
 use Rattle.std.specs.Prelude.{IfSome}
 use Rattle.std.proofs.lemmas.List.{append-nil}
+use Rattle.std.proofs.lemmas.Option.{same_Some}
 use Rattle.kh_io.specs.declared.files.Files.{Files}
 use Rattle.kh_io.specs.Call.{Call}
 use Rattle.kh_io.specs.Told.{Told, Kept, Extends, IsFrontOf}
 use Rattle.kh_io.specs.Disk.{file_of, AreImages, TellsFiles, FilesStay, LeavesOnly}
-use Rattle.kh_io.proofs.Moments.{both, weakened}
-use Rattle.kh_io.proofs.Telling.{told_map, told_both, kept_both, extends_both}
+use Rattle.kh_io.proofs.{both, weakened, told_map, told_both, kept_both, extends_both}
 use Rattle.kh_log.specs.Records.{Content}
-use Rattle.kh_log.proofs.Records.{content_of-short}
+use Rattle.kh_log.proofs.{content_of-short}
 use Rattle.kh_read.specs.declared.form.Form.{Form}
 use Rattle.khepri.specs.State.{State, empty, state_after, log_after, text_of}
 use Rattle.khepri.specs.Recovery.{Recovery, Recovered, Damaged, ends, ReplaysUnless, Recovers}
@@ -189,12 +189,9 @@ damaged_reads : (seen seen' : ℕ → Option (List ℕ)) (files : Files) (file o
     → (this : ℕ) → this < 4 → Kept (seen this) (seen' this)
 damaged_reads seen seen' files file offset are recovers reads this lt =
     kept_unless (seen this) (seen' this) (reads this lt) (λ was now same short.
-    let own : IsShort files.l0 = subst IsShort (some_same was files.l0 (sym same ∙ ap seen short.0 ∙ are 1 (omega arith))) short.1.0 in
+    let own : IsShort files.l0 = subst IsShort (same_Some was files.l0 (sym same ∙ ap seen short.0 ∙ are 1 (omega arith))) short.1.0 in
     apart (recovery_one files (Damaged file offset) (Recovered empty) recovers (short_recovers files own)))
   where
-    some_same : (a b : List ℕ) → Some a ≡ Some b → a ≡ b
-    some_same a b e = cc
-
     apart : Damaged file offset ≡ Recovered empty → ⊥
     apart e = cc
 

@@ -4,11 +4,10 @@ use Rattle.std.specs.Prelude.{IfSome, ◌&&◌}
 use Rattle.kh_io.specs.declared.files.Files.{Files}
 use Rattle.kh_io.specs.Told.{Told}
 use Rattle.kh_io.specs.Disk.{AreImages, IsSafe, LeavesOnly}
-use Rattle.kh_io.proofs.Moments.{started, weakened}
-use Rattle.kh_io.proofs.Telling.{told_map, told_same}
+use Rattle.kh_io.proofs.{started, weakened, told_map, told_same}
 use Rattle.kh_log.specs.Records.{Content, content_of, records_of, span}
 use Rattle.kh_log.specs.Log.{Place, Holds, moved, ImagesAre, EndsAt, IsBeforeOrAfter, Appending, whole, with_records}
-use Rattle.kh_log.proofs.Opening.{settled}
+use Rattle.kh_log.proofs.{settled}
 use Rattle.kh_term.specs.declared.name.Name.{Name}
 use Rattle.kh_read.specs.declared.form.Form.{Form}
 use Rattle.kh_read.specs.declared.form.Form.TheVariants as form

@@ -4,8 +4,7 @@ use Rattle.std.proofs.lemmas.List.{take-append-drop}
 use Rattle.kh_io.specs.Host.{Adds}
 use Rattle.kh_io.specs.declared.files.Files.{Files}
 use Rattle.kh_io.specs.Disk.{FilesStay, Elapses, LeavesOnly}
-use Rattle.kh_io.proofs.Moments.{goes_on, weakened, images_stay}
-use Rattle.kh_io.proofs.Telling.{told_both}
+use Rattle.kh_io.proofs.{goes_on, weakened, images_stay, told_both}
 use Rattle.khepri.specs.Output.{GivesAll}
 use Rattle.khepri.specs.Session.{Untouched}
 

@@ -5,8 +5,7 @@ use Rattle.std.proofs.lemmas.List.{append-nil, length-drop}
 use Rattle.kh_io.specs.declared.files.Files.{Files}
 use Rattle.kh_io.specs.Told.{Told, Kept, Extends, IsFrontOf}
 use Rattle.kh_io.specs.Disk.{LeavesOnly}
-use Rattle.kh_io.proofs.Moments.{started, both, weakened}
-use Rattle.kh_io.proofs.Telling.{told_same, told_map, told_both}
+use Rattle.kh_io.proofs.{started, both, weakened, told_same, told_map, told_both}
 use Rattle.kh_text_defs.specs.Shown.{shown_line}
 use Rattle.kh_read.specs.declared.form.Form.{Form}
 use Rattle.kh_read.specs.Reading.{Cut, Fault}

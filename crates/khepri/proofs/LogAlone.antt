@@ -5,9 +5,7 @@ use Rattle.std.proofs.lemmas.List.{length-append}
 use Rattle.kh_io.specs.declared.files.Files.{Files}
 use Rattle.kh_io.specs.Told.{Told, Kept}
 use Rattle.kh_io.specs.Disk.{file_of, AreImages, TellsFiles, FilesStay, OthersStay, LeavesOnly}
-use Rattle.kh_io.proofs.Moments.{started, both, weakened}
-use Rattle.kh_io.proofs.Telling.{told_same, told_map, told_both}
-use Rattle.kh_io.proofs.Staying.{files_same}
+use Rattle.kh_io.proofs.{started, both, weakened, told_same, told_map, told_both, files_same}
 use Rattle.kh_log.specs.Records.{records_of}
 use Rattle.kh_log.specs.Log.{Reading}
 use Rattle.khepri.specs.Opening.{Beginning}

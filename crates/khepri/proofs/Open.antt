@@ -5,15 +5,13 @@ use Rattle.std.specs.Prelude.{IfSome, IsSome, ◌⊎◌}
 use Rattle.kh_io.specs.declared.files.Files.{Files}
 use Rattle.kh_io.specs.Told.{Told, Kept}
 use Rattle.kh_io.specs.Disk.{file_of, AreImages, TellsFiles, FilesStay, LeavesOnly}
-use Rattle.kh_io.proofs.Moments.{both, weakened, images_stay}
-use Rattle.kh_io.proofs.Telling.{told_both}
+use Rattle.kh_io.proofs.{both, weakened, images_stay, told_both}
 use Rattle.kh_log.specs.declared.error.LogError.{LogError}
 use Rattle.kh_log.specs.declared.error.LogError.TheVariants as log_error
 use Rattle.khepri.specs.declared.store.OpenError.TheVariants as open_error
 use Rattle.kh_log.specs.Records.{Content, content_of, records_of, lacking_in, log_of, span, IsClosedAt}
 use Rattle.kh_log.specs.Log.{Place, Holds, Reading}
-use Rattle.kh_log.proofs.Records.{content_of-short}
-use Rattle.kh_log.proofs.Opening.{nothing_ends}
+use Rattle.kh_log.proofs.{content_of-short, nothing_ends}
 use Rattle.khepri.specs.State.{empty}
 use Rattle.khepri.specs.Recovery.{Recovery, Damaged, Replays, ReplaysUnless, Recovers}
 use Rattle.khepri.specs.Store.{FilesTold, IsShort, Begun, Opening}

@@ -4,12 +4,11 @@ use Rattle.std.specs.Prelude.{All}
 use Rattle.std.proofs.lemmas.List.Elements.{All-append}
 use Rattle.kh_io.specs.Call.{Call}
 use Rattle.kh_io.specs.Told.{Told, Kept, Extends}
-use Rattle.kh_io.proofs.Telling.{told_map, told_both, extends_both}
+use Rattle.kh_io.proofs.{told_map, told_both, extends_both}
 use Rattle.kh_log.specs.Records.{Content, records_of, lacking_in}
 use Rattle.kh_log.specs.Log.{Place, Holds}
 use Rattle.kh_log.specs.Calls.{unanswered, AreMade, FailAmong, open_calls, records_reads, Grows}
-use Rattle.kh_log.proofs.Records.{content_of-short}
-use Rattle.kh_log.proofs.Calling.{made_both, fail_later, fail_more}
+use Rattle.kh_log.proofs.{content_of-short, made_both, fail_later, fail_more}
 use Rattle.khepri.specs.State.{empty}
 use Rattle.khepri.specs.Recovery.{Recovered, Damaged, Replays, ends, ReplaysUnless}
 use Rattle.khepri.specs.Store.{IsShort, Begun}

@@ -17,7 +17,7 @@ use Rattle.kh_term.specs.Make.{name_tree, path_tree}
 use Rattle.kh_term.specs.Name.{has_name_length, is_name, is_path}
 use Rattle.kh_term.specs.Packed.{packed_of}
 use Rattle.kh_term.specs.Size.{width_of, depth_of, greatest, is_nil}
-use Rattle.kh_term.proofs.Spelling.{one_spelling}
+use Rattle.kh_term.proofs.{one_spelling}
 use Rattle.kh_pack.specs.Standing.{IsPackedAt, IsUnlessMemory}
 use Rattle.khepri.specs.Command.{put_parts, put_command, is_atom, is_atom_path, IsPut}
 

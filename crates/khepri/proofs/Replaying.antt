@@ -9,15 +9,14 @@ use Rattle.kh_term.specs.declared.name.Name.{Name}
 use Rattle.kh_read.specs.declared.form.Form.TheVariants as form
 use Rattle.kh_io.specs.Told.{Told, Kept, Extends}
 use Rattle.kh_io.specs.Call.{Call}
-use Rattle.kh_io.proofs.Telling.{told_map, told_both, told_same, extends_both}
+use Rattle.kh_io.proofs.{told_map, told_both, told_same, extends_both}
 use Rattle.kh_log.specs.declared.error.LogError.{LogError}
 use Rattle.kh_log.specs.declared.error.LogError.TheVariants as log_error
 use Rattle.khepri.specs.declared.store.OpenError.TheVariants as open_error
 use Rattle.kh_log.specs.Records.{length_of, records_of, span as records_span}
 use Rattle.kh_log.specs.Log.{Place, Holds}
 use Rattle.kh_log.specs.Calls.{AreMade, FailAmong, record_reads, records_reads}
-use Rattle.kh_log.proofs.Calling.{no_calls, made_both, fail_later, fail_more, records_front}
-use Rattle.kh_log.proofs.Places.{no_earlier, record_length}
+use Rattle.kh_log.proofs.{no_calls, made_both, fail_later, fail_more, records_front, no_earlier, record_length}
 use Rattle.khepri.specs.Tree.{Node}
 use Rattle.khepri.specs.Machine.{is_logged, after}
 use Rattle.khepri.specs.Command.{put_bytes, IsPut}

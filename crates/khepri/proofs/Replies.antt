@@ -5,7 +5,7 @@ use Rattle.std.proofs.lemmas.List.{take-append-le, take_all}
 use Rattle.std.proofs.Math.Seq.{take-append-add}
 use Rattle.kh_io.specs.declared.files.Files.{Files}
 use Rattle.kh_io.specs.Told.{Told}
-use Rattle.kh_io.proofs.Telling.{told_both}
+use Rattle.kh_io.proofs.{told_both}
 use Rattle.kh_text_defs.specs.Shown.{shown_line}
 use Rattle.kh_read.specs.declared.form.Form.{Form}
 use Rattle.khepri.specs.State.{State, store_reply, store_after, log_with, state_after, log_after, text_of}

@@ -7,8 +7,7 @@ use Rattle.std.proofs.lemmas.List.{append-nil, length-append, take_all, take_at,
 use Rattle.kh_io.specs.declared.files.Files.{Files}
 use Rattle.kh_io.specs.Told.{Told, Kept, Extends, IsFrontOf}
 use Rattle.kh_io.specs.Disk.{AreImages, LeavesOnly}
-use Rattle.kh_io.proofs.Moments.{both, weakened}
-use Rattle.kh_io.proofs.Telling.{told_map, told_both}
+use Rattle.kh_io.proofs.{both, weakened, told_map, told_both}
 use Rattle.kh_read.specs.declared.form.Form.{Form}
 use Rattle.khepri.specs.declared.session.Stop.{Stop}
 use Rattle.khepri.specs.declared.session.Stop.TheVariants as stop

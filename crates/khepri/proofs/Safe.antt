@@ -5,9 +5,7 @@ use Rattle.std.specs.Prelude.{IsSome}
 use Rattle.kh_io.specs.declared.files.Files.{Files}
 use Rattle.kh_io.specs.Told.{Told, Kept}
 use Rattle.kh_io.specs.Disk.{Torn, CutBack, Follows, AreImages, FilesStay, OthersStay, IsSafe, Elapses, LeavesOnly}
-use Rattle.kh_io.proofs.Moments.{started, goes_on, images_stay}
-use Rattle.kh_io.proofs.Telling.{told_map}
-use Rattle.kh_io.proofs.Staying.{stays_both}
+use Rattle.kh_io.proofs.{started, goes_on, images_stay, told_map, stays_both}
 use Rattle.khepri.specs.Store.{AreSafe, IsShort, OthersLeft, WritesLogAlone}
 use Rattle.khepri.specs.Opening.{LeftShort, WasShort, Beginning}
 

@@ -3,8 +3,7 @@ use Rattle.std.proofs.Common.{◌≡◌, ◌≢◌, ℕ, zero, suc, ◌<◌, ◌
 use Rattle.std.proofs.lemmas.List.{append-nil}
 use Rattle.kh_read.specs.declared.form.Form.{Form}
 use Rattle.kh_read.specs.Reading.{◌>>=◌, Read, Cut, Fault, form_at, extended}
-use Rattle.kh_read.proofs.Grows.{form_grows}
-use Rattle.kh_read.proofs.Place.{form_shorter}
+use Rattle.kh_read.proofs.{form_grows, form_shorter}
 use Rattle.khepri.specs.Script.{Ending, AtFault, behind_form, line_at, cut_short, all_read, Script, ends, faulty, cut, line, Later, Reads, EndsReading, BeginsReading}
 
 -- ---- lines, with more behind them

@@ -1,6 +1,7 @@
 -- A store that stands in its file, over calls that don't touch the files.
 use Rattle.std.proofs.Common.{◌≡◌, ℕ, List, Option, Some, None, refl, ap, subst, ◌∙◌, arith}
 use Rattle.std.specs.Prelude.{IfSome}
+use Rattle.std.proofs.lemmas.Option.{same_Some}
 use Rattle.kh_io.specs.declared.files.Files.{Files}
 use Rattle.kh_io.specs.Disk.{AreImages, Stays}
 use Rattle.kh_log.specs.Records.{records_of}
@@ -10,10 +11,7 @@ use Rattle.khepri.specs.Recovery.{Recovered, Replays, Recovers}
 use Rattle.khepri.specs.Store.{Opened, state_of, Stands}
 
 pub some_of : (P : List ℕ → Type 0) (seen : Option (List ℕ)) (bytes : List ℕ) → seen ≡ Some bytes → IfSome seen P → P bytes
-some_of P (Some was) bytes same holds = subst P (unwrapped same) holds
-  where
-    unwrapped : Some was ≡ Some bytes → was ≡ bytes
-    unwrapped e = cc
+some_of P (Some was) bytes same holds = subst P (same_Some was bytes same) holds
 some_of P None bytes same holds = absurd cc
 
 -- a crash leaves the store's state

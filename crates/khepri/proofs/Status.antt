@@ -3,7 +3,7 @@ use Rattle.std.proofs.Common.{◌≡◌, ℕ, List, Option, Result, Err, refl, a
 use Rattle.kh_io.specs.declared.files.Files.{Files}
 use Rattle.kh_io.specs.Call.{Call}
 use Rattle.kh_io.specs.Told.{Rose}
-use Rattle.kh_io.proofs.Telling.{told_map}
+use Rattle.kh_io.proofs.{told_map}
 use Rattle.khepri.specs.declared.session.Stop.{Stop}
 use Rattle.khepri.specs.declared.session.Stop.TheVariants as stop
 use Rattle.khepri.specs.Recovery.{Recovery, Recovered, Damaged, Recovers}

@@ -1,5 +1,5 @@
 use Rattle.std.proofs.Common.{length}
-use Rattle.kh_io.proofs.Moments.{weakened, both}
+use Rattle.kh_io.proofs.{weakened, both}
 use Rattle.kh_log.specs.Records.{open_gate}
 use Rattle.kh_log.proofs.Opening.{start_again, first_left, second_left, staged, both_written, both_put, during_first, during_second, on_ok}
 use Rattle.kh_log.proofs.durable.open_behind.Goals as goal

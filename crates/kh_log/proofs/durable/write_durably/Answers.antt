@@ -1,5 +1,5 @@
 use Rattle.std.proofs.Common.{length, arith}
-use Rattle.kh_io.proofs.Moments.{started, goes_on}
+use Rattle.kh_io.proofs.{started, goes_on}
 use Rattle.kh_log.proofs.Writes.{torn_not, writing}
 use Rattle.kh_log.specs.Log.{Writing}
 use Rattle.kh_log.proofs.durable.write_durably.Goals as goal

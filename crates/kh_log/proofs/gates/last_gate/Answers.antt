@@ -1,8 +1,6 @@
 use Rattle.std.proofs.Common.{ℕ, List, refl, subst, arith, rules, ◌∙◌, Err, Option}
 use Rattle.std.specs.Prelude.{IsErrOf}
-use Rattle.kh_io.proofs.Moments.{started}
-use Rattle.kh_io.proofs.Telling.{kept_same, kept_both}
-use Rattle.kh_io.proofs.Staying.{files_same, stays_both}
+use Rattle.kh_io.proofs.{started, kept_same, kept_both, files_same, stays_both}
 use Rattle.kh_log.specs.declared.error.LogError.TheVariants.{NotALog, DiskFault}
 use Rattle.kh_log.proofs.Walk.{told_start, still_long, walked, read_both, told_closed, told_lacks}
 use Rattle.kh_io.specs.Call.{ReadAt}

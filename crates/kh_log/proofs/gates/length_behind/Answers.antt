@@ -1,5 +1,5 @@
 use Rattle.std.proofs.Common.{◌≡◌, ◌≤◌, ◌+◌, ℕ, List, length, drop, ◌∙◌}
-use Rattle.kh_io.proofs.Telling.{told_map}
+use Rattle.kh_io.proofs.{told_map}
 use Rattle.kh_log.specs.Records.{IsOpenAt, length_of}
 use Rattle.kh_log.proofs.Headers.{length_read, length_there, ends_within}
 use Rattle.kh_log.proofs.gates.length_behind.Goals as goal

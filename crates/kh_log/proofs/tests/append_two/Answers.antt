@@ -1,4 +1,5 @@
 use Rattle.std.proofs.Common.{◌≡◌, ℕ, ◌++◌, List, Option, Some, None, sym, ap, subst, arith}
+use Rattle.std.proofs.lemmas.Option.{same_Some}
 use Rattle.kh_io.specs.Told.{Told}
 use Rattle.kh_io.specs.Disk.{IsSafe}
 use Rattle.kh_log.specs.Records.{records_of, IsClosedAt}
@@ -16,10 +17,7 @@ append-requires-clause-closed g c =
 -- after an append each image has a closed gate at its end
 closed_behind : {image : List ℕ → Type 0} (old new : Option (List ℕ)) (last : ℕ) (rs : List (List ℕ)) → IsSafe new image
     → Told old new (λ was now. EndsAt last (records_of was ++ rs) now) → ImagesAre new image (IsClosedAt last)
-closed_behind (Some was) (Some now) last rs safe ends = λ bytes there. subst (IsClosedAt last) (one now bytes (safe bytes there)) ends.gate
-  where
-    one : (a b : List ℕ) → Some a ≡ Some b → a ≡ b
-    one a b same = cc
+closed_behind (Some was) (Some now) last rs safe ends = λ bytes there. subst (IsClosedAt last) (same_Some now bytes (safe bytes there)) ends.gate
 closed_behind None (Some now) last rs safe ends = absurd ends
 closed_behind old None last rs safe ends = tt
 

@@ -1,6 +1,6 @@
 use Rattle.std.proofs.Common.{inr, ◌∙◌, arith}
 use Rattle.kh_io.specs.Disk.{file_of}
-use Rattle.kh_io.proofs.Moments.{both}
+use Rattle.kh_io.proofs.{both}
 use Rattle.khepri.proofs.Safe.{asked, was_short}
 use Rattle.khepri.proofs.Calls.{on_err, begin_fails, begin_then_fails}
 use Rattle.khepri.proofs.opening.begin_log.Goals as goal

@@ -1,5 +1,5 @@
 use Rattle.std.proofs.Common.{◌<◌, arith}
-use Rattle.kh_io.proofs.Moments.{started, goes_on, other_image}
+use Rattle.kh_io.proofs.{started, goes_on, other_image}
 use Rattle.khepri.specs.Opening.{LeftShort}
 use Rattle.khepri.proofs.Safe.{OnlyShort, told_if_left, others_both, short_cut, short_written, left_short}
 use Rattle.khepri.proofs.opening.write_empty.Goals as goal

@@ -1,13 +1,11 @@
 use Rattle.std.proofs.Common.{◌≡◌, ◌+◌, ℕ, length, drop, Ok, Err, Some, refl, sym, ap, subst, ◌∙◌, arith, List}
 use Rattle.std.specs.Prelude.{slice_get, IfSome}
 use Rattle.kh_io.specs.Told.{Told, Extends}
-use Rattle.kh_io.proofs.Moments.{started}
-use Rattle.kh_io.proofs.Telling.{kept_same, kept_both}
-use Rattle.kh_io.proofs.Staying.{files_same, stays_both}
+use Rattle.kh_io.proofs.{started, kept_same, kept_both, files_same, stays_both}
 use Rattle.kh_log.specs.Records.{length_of, records_of}
 use Rattle.kh_log.specs.Log.{Place, Holds}
 use Rattle.kh_log.specs.Calls.{FailAmong, record_reads}
-use Rattle.kh_log.proofs.Walk.{read_both}
+use Rattle.kh_log.proofs.{read_both}
 use Rattle.khepri.specs.Recovery.{IsNoRecord}
 use Rattle.khepri.specs.Opening.{IsRecord}
 use Rattle.khepri.specs.State.{State}

@@ -1,7 +1,7 @@
 use Rattle.std.proofs.Common.{◌≡◌, ◌⊎◌, ◌∙◌, ℕ, List, Option, ap, subst, refl, inl, inr, Ok, Err, arith}
 use Rattle.std.specs.Prelude.{Result}
 use Rattle.kh_io.specs.Told.{Extends, IsFrontOf, Rose}
-use Rattle.kh_io.proofs.Telling.{told_map}
+use Rattle.kh_io.proofs.{told_map}
 use Rattle.khepri.specs.declared.session.Stop.{Stop}
 use Rattle.khepri.specs.declared.session.Stop.TheVariants as stop
 use Rattle.khepri.specs.declared.store.OpenError.{OpenError}

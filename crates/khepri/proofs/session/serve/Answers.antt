@@ -1,6 +1,6 @@
 use Rattle.std.proofs.Common.{◌≡◌, ◌∙◌, length, drop, refl, arith}
 use Rattle.std.proofs.lemmas.List.{drop_all}
-use Rattle.kh_io.proofs.Telling.{kept_same, kept_both}
+use Rattle.kh_io.proofs.{kept_same, kept_both}
 use Rattle.khepri.specs.Store.{state_of}
 use Rattle.khepri.proofs.Stands.{stands_recovers}
 use Rattle.khepri.proofs.LogAlone.{untouched, written_then, gains_nothing, gains_then}

@@ -2,7 +2,7 @@ use Rattle.std.proofs.Common.{◌≡◌, ℕ, ◌+◌, ◌*◌, ◌<◌, ◌≤�
 use Rattle.std.specs.Prelude.{IfSome}
 use Rattle.kh_io.specs.Disk.{put, LeavesOnly}
 use Rattle.kh_io.specs.Told.{Told}
-use Rattle.kh_io.proofs.Telling.{told_map}
+use Rattle.kh_io.proofs.{told_map}
 use Rattle.kh_log.specs.Records.{open_gate, log_of, span, records_of}
 use Rattle.kh_log.specs.Log.{Place, IsGroup, Holds, EndsAt, Appending, with_records}
 use Rattle.kh_log.proofs.Opening.{start_of, told_ends, told_holds, is_group, length_group, with_group, span_least, moved_is}

@@ -1,8 +1,7 @@
 use Rattle.std.proofs.Common.{◌≡◌, ◌<◌, Err, Some, sym, ap, arith}
 use Rattle.kh_io.specs.Disk.{TellsFiles}
-use Rattle.kh_io.proofs.Moments.{both}
+use Rattle.kh_io.proofs.{both, stays_both}
 use Rattle.kh_log.specs.Records.{records_of, lacking_in}
-use Rattle.kh_io.proofs.Staying.{stays_both}
 use Rattle.khepri.specs.State.{empty}
 use Rattle.khepri.specs.Recovery.{Recovered, Damaged, Replays, ReplaysUnless}
 use Rattle.khepri.proofs.Safe.{still_safe, all_safe, log_safe}
