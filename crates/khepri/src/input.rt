@@ -4,13 +4,14 @@ ghost use Rattle.kh_io.specs.Told.{Kept, Rose};
 ghost use Rattle.kh_io.specs.Disk.{FilesStay, LeavesOnly};
 ghost use Rattle.kh_log.specs.Calls.{Grows};
 ghost use Rattle.khepri.specs.Input.{TakesMore, TakeStops};
+ghost use Rattle.khepri.specs.Script.{script_limit};
 ghost use Rattle.khepri.specs.Session.{Untouched};
 
 use crate::session::Stop;
 use kh_io::Host;
 
 /// How many bytes of a script are read as text.
-pub const SCRIPT_LIMIT: usize = 67_108_864;
+const SCRIPT_LIMIT: usize = 67_108_864;
 
 /// What came of a further piece of the input.
 #[derive(Clone, Copy, Debug, PartialEq, Eq)]
@@ -28,7 +29,7 @@ pub fn take_more<H: Host>(
     buffer: &mut [u8],
 ) -> Result<Piece, Stop>
     requires some { 0 < length buffer.old }
-    requires short { length input.old.items ≤ SCRIPT_LIMIT }
+    requires short { length input.old.items ≤ script_limit }
     ensures taken { IfOk result (λ piece. TakesMore piece (H.left host.old) (H.left host.new) input.old.items input.new.items) }
     ensures stops { IfErr result (λ stop. TakeStops stop (H.left host.old) (H.left host.new) input.old.items (Rose (H.read_faults host.old) (H.read_faults host.new))) }
     ensures kept { OnErr result (input.new.items ≡ input.old.items) }
