@@ -2,7 +2,6 @@
 //! The bytes of the files were worked out by hand.
 use super::{ROOM, files_of, run};
 use crate::command::{pack_put, read_put};
-use crate::plain::plain_session;
 use kh_io::{Disk, Files, Host, MemoryHost};
 use kh_term::{Atom, Name, Path};
 use std::alloc::Global;
@@ -479,9 +478,26 @@ fn a_crash_leaves_the_puts_before_its_gate(rt: HostRuntime) -> Result<(), Fail> 
     Ok(())
 }
 
-// A script as its forms, each with a reply of one line, and how many calls a run over empty files makes.
+const GET_ALL: &[u8] = b"{get,[a]}.\n{get,[a,b]}.\n{get,[a,b,c]}.\n{get,[c]}.\n{get,[d]}.\n";
+
+// Their replies where a node is missing, and for a node without data.
+const NO_A: &[u8] = b"{error,{khepri,node_not_found,#{node_path => [a]}}}.\n";
+
+const NO_AB: &[u8] = b"{error,{khepri,node_not_found,#{node_path => [a,b]}}}.\n";
+
+const NO_ABC: &[u8] = b"{error,{khepri,node_not_found,#{node_path => [a,b,c]}}}.\n";
+
+const NO_C: &[u8] = b"{error,{khepri,node_not_found,#{node_path => [c]}}}.\n";
+
+const NO_D: &[u8] = b"{error,{khepri,node_not_found,#{node_path => [d]}}}.\n";
+
+const NO_DATA: &[u8] = b"{ok,undefined}.\n";
+
+// A script as its forms, each with a reply of one line; how the gets are answered before the first form and after each; and how
+// many calls a run over empty files makes.
 struct Script {
     forms: &'static [&'static [u8]],
+    states: &'static [[&'static [u8]; 5]],
     calls: u64,
 }
 
@@ -493,6 +509,14 @@ static SCRIPTS: [Script; 3] = [
             b"{put,[a,b],-7}.\n",
             b"{get,[c]}.\n",
             b"{put,[c],300}.\n",
+        ],
+        states: &[
+            [NO_A, NO_AB, NO_ABC, NO_C, NO_D],
+            [b"{ok,1}.\n", NO_AB, NO_ABC, NO_C, NO_D],
+            [b"{ok,1}.\n", NO_AB, NO_ABC, NO_C, NO_D],
+            [b"{ok,1}.\n", b"{ok,-7}.\n", NO_ABC, NO_C, NO_D],
+            [b"{ok,1}.\n", b"{ok,-7}.\n", NO_ABC, NO_C, NO_D],
+            [b"{ok,1}.\n", b"{ok,-7}.\n", NO_ABC, b"{ok,300}.\n", NO_D],
         ],
         calls: 28,
     },
@@ -507,6 +531,16 @@ static SCRIPTS: [Script; 3] = [
             b"{put,[a],0}.\n",
             b"{get,[a]}.\n",
         ],
+        states: &[
+            [NO_A, NO_AB, NO_ABC, NO_C, NO_D],
+            [NO_A, NO_AB, NO_ABC, NO_C, NO_D],
+            [b"{ok,999999999999999999}.\n", NO_AB, NO_ABC, NO_C, NO_D],
+            [b"{ok,0}.\n", NO_AB, NO_ABC, NO_C, NO_D],
+            [b"{ok,0}.\n", NO_AB, NO_ABC, NO_C, NO_D],
+            [b"{ok,-129}.\n", NO_AB, NO_ABC, NO_C, NO_D],
+            [b"{ok,0}.\n", NO_AB, NO_ABC, NO_C, NO_D],
+            [b"{ok,0}.\n", NO_AB, NO_ABC, NO_C, NO_D],
+        ],
         calls: 34,
     },
     // Puts above and below others.
@@ -519,19 +553,38 @@ static SCRIPTS: [Script; 3] = [
             b"{put,[a],6}.\n",
             b"{put,[a,b,c],-128}.\n",
         ],
+        states: &[
+            [NO_A, NO_AB, NO_ABC, NO_C, NO_D],
+            [NO_DATA, NO_DATA, b"{ok,5}.\n", NO_C, NO_D],
+            [NO_DATA, NO_DATA, b"{ok,5}.\n", NO_C, NO_D],
+            [NO_DATA, b"{ok,128}.\n", b"{ok,5}.\n", NO_C, NO_D],
+            [NO_DATA, b"{ok,128}.\n", b"{ok,5}.\n", NO_C, b"{ok,-1}.\n"],
+            [
+                b"{ok,6}.\n",
+                b"{ok,128}.\n",
+                b"{ok,5}.\n",
+                NO_C,
+                b"{ok,-1}.\n",
+            ],
+            [
+                b"{ok,6}.\n",
+                b"{ok,128}.\n",
+                b"{ok,-128}.\n",
+                NO_C,
+                b"{ok,-1}.\n",
+            ],
+        ],
         calls: 37,
     },
 ];
 
-const GET_ALL: &[u8] = b"{get,[a]}.\n{get,[a,b]}.\n{get,[a,b,c]}.\n{get,[c]}.\n{get,[d]}.\n";
-
-// The script of the first forms.
-fn script_of(alloc: Global, forms: &[&[u8]], count: usize) -> Result<Vec<u8>, Fail> {
-    let mut script = Vec::new(alloc);
-    for form in forms.iter().take(count) {
-        script.extend_from_slice(form)?;
+// The text of these lines.
+fn joined(alloc: Global, lines: &[&[u8]]) -> Result<Vec<u8>, Fail> {
+    let mut text = Vec::new(alloc);
+    for line in lines {
+        text.extend_from_slice(line)?;
     }
-    Ok(script)
+    Ok(text)
 }
 
 fn count_lines(text: &[u8]) -> usize {
@@ -544,45 +597,32 @@ fn count_lines(text: &[u8]) -> usize {
     count
 }
 
-// Whether a plain session of the first forms answers the gets of all paths so.
-fn is_state_after(
-    alloc: Global,
-    forms: &[&[u8]],
-    count: usize,
-    output: &[u8],
-) -> Result<bool, Fail> {
-    let mut script = script_of(alloc, forms, count)?;
-    let (mut text, _) = plain_session(alloc, &script)?;
-    text.extend_from_slice(output)?;
-    script.extend_from_slice(GET_ALL)?;
-    let (whole, _) = plain_session(alloc, &script)?;
-    Ok(text.as_slice() == whole.as_slice())
-}
-
 // The program over these files answers by the state after so many forms, or after one more, whose reply had not begun.
 fn recovers(
     rt: &impl Abort,
     alloc: Global,
     files: Files,
-    forms: &[&[u8]],
+    script: &Script,
     begun: usize,
 ) -> Result<(), Fail> {
     let mut host = host_over(alloc, files, GET_ALL, &[])?;
     assert_eq!(rt; run(alloc, &mut host)?, 0);
-    let now = is_state_after(alloc, forms, begun, host.output())?;
-    let next = is_state_after(alloc, forms, begun.saturating_add(1), host.output())?;
-    assert!(rt; now || next);
+    let mut is_allowed = false;
+    for state in script.states.iter().skip(begun).take(2) {
+        is_allowed = is_allowed || joined(alloc, state)?.as_slice() == host.output();
+    }
+    assert!(rt; is_allowed);
     Ok(())
 }
 
 // A run whose call of this number fails, if it has one: each image before that call recovers. Answers the status.
-fn crashes_at(rt: &impl Abort, alloc: Global, forms: &[&[u8]], call: u64) -> Result<u8, Fail> {
-    let script = script_of(alloc, forms, forms.len())?;
-    let mut host = host_over(alloc, files_of(alloc, b"")?, &script, &[call])?;
+fn crashes_at(rt: &impl Abort, alloc: Global, script: &Script, call: u64) -> Result<u8, Fail> {
+    let forms = joined(alloc, script.forms)?;
+    let mut host = host_over(alloc, files_of(alloc, b"")?, &forms, &[call])?;
     let status = run(alloc, &mut host)?;
     let begun = count_lines(host.output());
     for fill in FILLS {
-        recovers(rt, alloc, image(&host, call, fill)?, forms, begun)?;
+        recovers(rt, alloc, image(&host, call, fill)?, script, begun)?;
     }
     Ok(status)
 }
@@ -592,10 +632,10 @@ fn a_crash_leaves_the_state_after_some_commands(rt: HostRuntime) -> Result<(), F
     let alloc = rt.alloc();
     for script in &SCRIPTS {
         for call in 0..script.calls {
-            let status = crashes_at(&rt, alloc, script.forms, call)?;
+            let status = crashes_at(&rt, alloc, script, call)?;
             assert!(rt; status >= 3 && status <= 5);
         }
-        let status = crashes_at(&rt, alloc, script.forms, script.calls)?;
+        let status = crashes_at(&rt, alloc, script, script.calls)?;
         assert_eq!(rt; status, 0);
     }
     Ok(())
