@@ -21,8 +21,8 @@ pub struct RealHost<R: Runtime> {
     l0: Option<R::File>,
     s1: Option<R::File>,
     l1: Option<R::File>,
-    /// Which files were made, in a folder that has not been synced since.
-    made: [bool; 4],
+    /// For each file, whether the folder was synced since the file was first opened. Only then is its name safe, whoever made it.
+    named: [bool; 4],
     disk_faults: u64,
     read_faults: u64,
     write_faults: u64,
@@ -49,7 +49,7 @@ impl<R: Runtime> RealHost<R> {
             l0: None,
             s1: None,
             l1: None,
-            made: [false; 4],
+            named: [false; 4],
             disk_faults: 0,
             read_faults: 0,
             write_faults: 0,
@@ -70,11 +70,7 @@ impl<R: Runtime> RealHost<R> {
         if let Some(opened) = kept {
             return Ok(opened);
         }
-        let (opened, made) = open(&self.rt, name(file))?;
-        if made {
-            self.made[file as usize] = true;
-        }
-        Ok(opened)
+        open(&self.rt, name(file))
     }
 
     // Puts an opened file back.
@@ -156,9 +152,9 @@ impl<R: Runtime> RealHost<R> {
     {
         let opened = self.opened(file)?;
         opened.sync_all()?;
-        if self.made[file as usize] {
+        if !self.named[file as usize] {
             fs::open(&self.rt, ".")?.sync_all()?;
-            self.made[file as usize] = false;
+            self.named[file as usize] = true;
         }
         self.keep(file, opened);
         Ok(())
@@ -175,17 +171,11 @@ fn name(file: u8) -> &'static str {
     }
 }
 
-// Opens a file, and says whether it had to be made.
-fn open<R: Files>(rt: &R, name: &str) -> io::Result<(R::File, bool)> {
+// Opens a file, and makes it where it isn't there.
+fn open<R: Files>(rt: &R, name: &str) -> io::Result<R::File> {
     let mut options = OpenOptions::new();
-    options.read(true).write(true);
-    match options.open(rt, name) {
-        Err(e) if e.kind() == ErrorKind::NotFound => {
-            options.create(true);
-            Ok((options.open(rt, name)?, true))
-        }
-        opened => Ok((opened?, false)),
-    }
+    options.read(true).write(true).create(true);
+    options.open(rt, name)
 }
 
 // Reads once, and again where a signal came between.

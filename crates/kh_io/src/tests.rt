@@ -1,4 +1,6 @@
 //! The hosts, called through their trait.
+ghost use Rattle.std.specs.Prelude.{◌<◌};
+
 use crate::{Disk, Failed, FileBytes, Files, Host, MemoryHost, RealHost, SoundHost};
 use std::alloc::{AllocError, Global};
 use std::fs;
@@ -332,6 +334,18 @@ fn a_sound_host_keeps_files(rt: HostRuntime) -> Result<(), Fail> {
     Ok(())
 }
 
+// Makes a file of one byte, and syncs it.
+fn write_alone<H: Host>(host: &mut H, file: u8, byte: u8) -> Result<(), Failed>
+    requires { file < 4 }
+{
+    host.cut(file, 0)?;
+    if host.len(file)? > 0 {
+        return Err(Failed);
+    }
+    host.write_at(file, 0, &[byte])?;
+    host.sync(file)
+}
+
 #[test]
 fn the_real_host_reads_what_it_wrote(rt: HostRuntime) -> Result<(), Fail> {
     let alloc = rt.alloc();
@@ -343,6 +357,19 @@ fn the_real_host_reads_what_it_wrote(rt: HostRuntime) -> Result<(), Fail> {
     let mut again = RealHost::new(rt.clone()?);
     let kept = content(alloc, &mut again)?;
     assert_eq!(rt; kept.as_slice(), b"abXQlong".as_slice());
-    fs::remove_file(&rt, "khepri.l0")?;
+    for file in 0..4 {
+        write_alone(&mut host, file, b'0' + file)?;
+    }
+    let named = [
+        ("khepri.s0", b'0'),
+        ("khepri.l0", b'1'),
+        ("khepri.s1", b'2'),
+        ("khepri.l1", b'3'),
+    ];
+    for (name, byte) in named {
+        let bytes = fs::read(&rt, name)?;
+        assert_eq!(rt; bytes.as_slice(), [byte].as_slice());
+        fs::remove_file(&rt, name)?;
+    }
     Ok(())
 }
