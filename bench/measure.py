@@ -4,6 +4,8 @@ import sys
 from runs import run_alone
 
 LIMIT = 67_108_864
+# Numbers of puts under one parent; with it they make no more nodes than a store holds.
+HALF, WHOLE = 95_000, 190_000
 
 
 def put(i):
@@ -31,11 +33,19 @@ def puts_of_length(length):
     return b"".join(lines)
 
 
+def all_put(program, count):
+    """A run of so many puts under one parent, each of which is answered `ok.`."""
+    answered = run_alone(program, puts(count))
+    if (answered.status, answered.output) != (0, b"ok.\n" * count):
+        sys.exit(f"{count:,} puts: status {answered.status}, {answered.output.count(b'ok.'):,} answered ok")
+    return answered
+
+
 def main(program):
-    half = run_alone(program, puts(100_000))
-    whole = run_alone(program, puts(200_000))
-    print(f"puts under one parent: 100,000 in {half.seconds:.2f} s, 200,000 in {whole.seconds:.2f} s, "
-          f"ratio {whole.seconds / half.seconds:.2f}, status {half.status} and {whole.status}")
+    half = all_put(program, HALF)
+    whole = all_put(program, WHOLE)
+    print(f"puts under one parent: {HALF:,} in {half.seconds:.2f} s, {WHOLE:,} in {whole.seconds:.2f} s, "
+          f"ratio {whole.seconds / half.seconds:.2f}")
 
     script = puts_of_length(60_000_000)
     long = run_alone(program, script)
