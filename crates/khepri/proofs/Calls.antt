@@ -3,14 +3,16 @@ use Rattle.std.proofs.Common.{◌≡◌, ℕ, zero, suc, ◌+◌, ◌<◌, false
 use Rattle.std.specs.Prelude.{All, Result, Ok, Err, OnErr, get_or}
 use Rattle.std.proofs.lemmas.Bool.{cases_Bool}
 use Rattle.std.proofs.lemmas.List.{append-nil, take-append-drop}
+use Rattle.std.proofs.lemmas.List.Concat.{flat_map-append}
 use Rattle.std.proofs.lemmas.List.Elements.{All-nil, All-cons, All-head, All-tail, All-push, All-append}
 use Rattle.kh_io.specs.Call.{Call, Take, Give, Len, ReadAt, WriteAt, Cut, Sync}
+use Rattle.kh_io.specs.Recording.{gives, given_in}
 use Rattle.kh_io.specs.Told.{Told, Kept, Gains, Extends}
 use Rattle.kh_io.proofs.{told_map, told_both, extends_both}
 use Rattle.kh_log.specs.Records.{records_of, span as records_span}
 use Rattle.kh_log.specs.Calls.{unanswered, HasFailed, AreMade, FailAmong, gate_reads, open_calls, record_reads, records_reads, Grows}
 use Rattle.kh_log.proofs.{no_calls, fail_one, fail_later}
-use Rattle.khepri.specs.Damage.{taken_by, taken_in, FailInside}
+use Rattle.khepri.specs.Damage.{FailInside}
 use Rattle.khepri.specs.Opening.{ReadsLog, all_synced, empty_written, begun_in, OpenedBy}
 
 -- one more call behind others
@@ -127,20 +129,16 @@ begin_then_fails a b c j0 j1 j2 len short told later gains fails = told_both a b
 
 -- ---- what the sink has taken
 
-pub taken-append : (calls later : List Call) → taken_by (calls ++ later) ≡ taken_by calls ++ taken_by later
-taken-append [] later = refl
-taken-append (call ∷ calls) later = ap (λ (l : List ℕ). taken_in call ++ l) (taken-append calls later) ∙ sym (append_assoc (taken_in call) (taken_by calls) (taken_by later))
-
 -- the calls gave the piece up to what is left of it
 abbrev pub GivenTo : (piece left : List ℕ) → List Call → Type 0
-GivenTo piece left calls = piece ≡ taken_by calls ++ left
+GivenTo piece left calls = piece ≡ given_in calls ++ left
 
 pub more_given : (a b c : Option (List Call)) (piece left : List ℕ) (n : ℕ) → Extends a b (GivenTo piece left) → Gains b c (Give left (Some n)) → Extends a c (GivenTo piece (drop n left))
 more_given a b c piece left n first gains =
     call_then (GivenTo piece left) (GivenTo piece (drop n left)) a b c (Give left (Some n)) first gains (λ calls is.
-    let taken : taken_by (calls ++ Give left (Some n) ∷ []) ≡ taken_by calls ++ take n left =
-    taken-append calls (Give left (Some n) ∷ []) ∙ ap (λ (l : List ℕ). taken_by calls ++ l) (append-nil (take n left)) in
-    is ∙ ap (λ (l : List ℕ). taken_by calls ++ l) (sym (take-append-drop n left)) ∙ sym (append_assoc (taken_by calls) (take n left) (drop n left))
+    let taken : given_in (calls ++ Give left (Some n) ∷ []) ≡ given_in calls ++ take n left =
+    flat_map-append gives calls (Give left (Some n) ∷ []) ∙ ap (λ (l : List ℕ). given_in calls ++ l) (append-nil (take n left)) in
+    is ∙ ap (λ (l : List ℕ). given_in calls ++ l) (sym (take-append-drop n left)) ∙ sym (append_assoc (given_in calls) (take n left) (drop n left))
     ∙ ap (λ (l : List ℕ). l ++ drop n left) (sym taken))
 
 pub give_fails : (a b c : Option (List Call)) (piece left : List ℕ) → 0 < length left → Extends a b (GivenTo piece left) → Gains b c (Give left None) → Extends a c (FailInside piece)
@@ -148,16 +146,16 @@ give_fails a b c piece left some first gains =
     call_then (GivenTo piece left) (FailInside piece) a b c (Give left None) first gains (λ calls is. record { before = calls; left = left; are = refl; whole = is; some = some })
 
 -- calls that take nothing, before those of the piece
-pub inside_later : (piece : List ℕ) (calls later : List Call) → taken_by calls ≡ [] → FailInside piece later → FailInside piece (calls ++ later)
+pub inside_later : (piece : List ℕ) (calls later : List Call) → given_in calls ≡ [] → FailInside piece later → FailInside piece (calls ++ later)
 inside_later piece calls later none inside = record {
   before = calls ++ inside.before;
   left = inside.left;
   are = ap (λ (l : List Call). calls ++ l) inside.are ∙ sym (append_assoc calls inside.before (Give inside.left None ∷ []));
-  whole = inside.whole ∙ ap (λ (l : List ℕ). l ++ inside.left) (sym (taken-append calls inside.before ∙ ap (λ (l : List ℕ). l ++ taken_by inside.before) none));
+  whole = inside.whole ∙ ap (λ (l : List ℕ). l ++ inside.left) (sym (flat_map-append gives calls inside.before ∙ ap (λ (l : List ℕ). l ++ given_in inside.before) none));
   some = inside.some;
 }
 
-read_takes_nothing : (call : Call) → ReadsLog call → taken_in call ≡ []
+read_takes_nothing : (call : Call) → ReadsLog call → gives call ≡ []
 read_takes_nothing (Len file len) reads = refl
 read_takes_nothing (ReadAt file at asked bytes) reads = refl
 read_takes_nothing (WriteAt file at bytes done) reads = absurd reads
@@ -166,19 +164,19 @@ read_takes_nothing (Sync file done) reads = absurd reads
 read_takes_nothing (Take asked bytes) reads = absurd reads
 read_takes_nothing (Give piece taken) reads = absurd reads
 
-reads_take_nothing : (calls : List Call) → All ReadsLog calls → taken_by calls ≡ []
+reads_take_nothing : (calls : List Call) → All ReadsLog calls → given_in calls ≡ []
 reads_take_nothing [] reads = refl
 reads_take_nothing (call ∷ calls) reads =
-    ap (λ (l : List ℕ). l ++ taken_by calls) (read_takes_nothing call (All-head ReadsLog call calls reads)) ∙ reads_take_nothing calls (All-tail ReadsLog call calls reads)
+    ap (λ (l : List ℕ). l ++ given_in calls) (read_takes_nothing call (All-head ReadsLog call calls reads)) ∙ reads_take_nothing calls (All-tail ReadsLog call calls reads)
 
-begun_takes_nothing : (was : List ℕ) → taken_by (begun_in was) ≡ []
+begun_takes_nothing : (was : List ℕ) → given_in (begun_in was) ≡ []
 begun_takes_nothing was = elim (cases_Bool (nat_lt (length was) 2)) [
-  | inl is ↦ ap (λ b. taken_by (if b then empty_written else [])) is
-  | inr other ↦ ap (λ b. taken_by (if b then empty_written else [])) other
+  | inl is ↦ ap (λ b. given_in (if b then empty_written else [])) is
+  | inr other ↦ ap (λ b. given_in (if b then empty_written else [])) other
 ]
 
 -- an opening takes nothing
-pub opened_takes_nothing : (was : List ℕ) (calls : List Call) → OpenedBy was calls → taken_by calls ≡ []
+pub opened_takes_nothing : (was : List ℕ) (calls : List Call) → OpenedBy was calls → given_in calls ≡ []
 opened_takes_nothing was calls by =
-    ap taken_by by.are ∙ taken-append (begun_in was) by.reads ∙ ap (λ (l : List ℕ). l ++ taken_by by.reads) (begun_takes_nothing was)
+    ap given_in by.are ∙ flat_map-append gives (begun_in was) by.reads ∙ ap (λ (l : List ℕ). l ++ given_in by.reads) (begun_takes_nothing was)
     ∙ reads_take_nothing by.reads by.log

@@ -1,6 +1,7 @@
 -- A command is executed: what the store was and is, and what a crash leaves on the way.
-use Rattle.std.proofs.Common.{ℕ, ℤ, ◌≡◌, ◌+◌, nat_le, true, false, Bool, cond, if◌then◌else◌, List, [], ◌∷◌, ◌++◌, length, Option, Some, None, refl, sym, ap, subst, inl, inr, ◌∙◌, arith}
+use Rattle.std.proofs.Common.{ℕ, ℤ, ◌≡◌, ◌+◌, nat_le, true, false, cond, if◌then◌else◌, List, [], ◌∷◌, ◌++◌, length, Option, Some, None, refl, sym, ap, subst, inl, inr, ◌∙◌, arith}
 use Rattle.std.specs.Prelude.{IfSome, ◌&&◌}
+use Rattle.std.proofs.lemmas.Bool.{and_right}
 use Rattle.kh_io.specs.declared.files.Files.{Files}
 use Rattle.kh_io.specs.Told.{Told}
 use Rattle.kh_io.specs.Disk.{AreImages, IsSafe, LeavesOnly}
@@ -214,11 +215,7 @@ pub no_place : (path : List Name) (number sent : ℤ) (store inside : Opened) �
 no_place path number sent store inside is same other =
     let refused : is_logged (form.Put path number) store.nodes ≡ false =
     ap (λ (z : ℤ). is_logged (form.Put path z) store.nodes) (sym is) ∙ ap (λ (s : Opened). is_logged (form.Put path sent) s.nodes) (sym same) ∙ other in
-    none_logged path number (state_of store) (ap (λ b. log_has_room (form.Put path number) store.place.last && b) refused ∙ and_false (log_has_room (form.Put path number) store.place.last))
-  where
-    and_false : (b : Bool) → (b && false) ≡ false
-    and_false true = refl
-    and_false false = refl
+    none_logged path number (state_of store) (ap (λ b. log_has_room (form.Put path number) store.place.last && b) refused ∙ and_right (log_has_room (form.Put path number) store.place.last) false refl)
 
 -- and the store's state is the one after it
 pub logged_state : (path : List Name) (number sent : ℤ) (store inside : Opened) (bytes : List ℕ) (nodes : List Node) (log : Place) (more : List (List ℕ)) → sent ≡ number → inside ≡ store

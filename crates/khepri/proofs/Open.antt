@@ -4,8 +4,8 @@ use Rattle.std.proofs.lemmas.Bool.{false≢true}
 use Rattle.std.specs.Prelude.{IfSome, IsSome, ◌⊎◌}
 use Rattle.kh_io.specs.declared.files.Files.{Files}
 use Rattle.kh_io.specs.Told.{Told, Kept}
-use Rattle.kh_io.specs.Disk.{file_of, AreImages, TellsFiles, FilesStay, LeavesOnly}
-use Rattle.kh_io.proofs.{both, weakened, images_stay, told_both}
+use Rattle.kh_io.specs.Disk.{file_of, AreImages, TellsFiles, LeavesOnly}
+use Rattle.kh_io.proofs.{both, weakened, told_both}
 use Rattle.kh_log.specs.declared.error.LogError.{LogError}
 use Rattle.kh_log.specs.declared.error.LogError.TheVariants as log_error
 use Rattle.khepri.specs.declared.store.OpenError.TheVariants as open_error
@@ -27,12 +27,6 @@ synced seen run = weakened run (λ files s left. record {
   log = inl (left.images 1 (omega arith));
   others = λ file lt other. left.images file lt;
 })
-
--- the files are read in two calls
-pub read_on : {m0 m1 m2 given given' : ℕ} {past mid since : ℕ → Files → ℕ → Type 0} {seen seen' : ℕ → Option (List ℕ)} {image image' : ℕ → List ℕ → Type 0}
-    → LeavesOnly m0 m1 past mid (Reading image given) → LeavesOnly m1 m2 mid since (Reading image' given') → FilesStay seen seen' image image' → given' ≡ given
-    → LeavesOnly m0 m2 past since (Reading image given)
-read_on first second stay same = both first second (λ files s left. record { images = images_stay stay files left.images; stamp = left.stamp ∙ same })
 
 was_short_before : (a b : Option (List ℕ)) → Kept a b → WasShort b → IfSome a IsShort
 was_short_before (Some x) (Some y) kept short = omega (arith, short, ap length kept)

@@ -1,7 +1,8 @@
 -- How far the calls of a run have come, as the host's journal lists them: towards where the files are damaged, and how much of a piece the
 -- sink has taken.
 use Rattle.std.specs.Prelude.{◌≡◌, ℕ, suc, ◌+◌, ◌<◌, List, [], ◌∷◌, ◌++◌, map, length, take, Option, Some, None}
-use Rattle.kh_io.specs.Call.{Call, Take, Give, Len, ReadAt, WriteAt, Cut, Sync}
+use Rattle.kh_io.specs.Call.{Call, Give}
+use Rattle.kh_io.specs.Recording.{given_in}
 use Rattle.kh_log.specs.Records.{records_of, lacking_in, span}
 use Rattle.kh_log.specs.Calls.{unanswered, FailAmong, open_calls, records_reads}
 use Rattle.khepri.specs.Opening.{all_synced, begun_in}
@@ -27,26 +28,10 @@ FailUnless None log offset calls = FailAtRecord (opening_calls log) (records_of 
 abbrev pub FailBefore : List ℕ → ℕ → List Call → Type 0
 FailBefore log offset calls = FailUnless (lacking_in log) log offset calls
 
--- the bytes that the sink has taken in a call whose answer is known
-abbrev pub taken_in : Call → List ℕ
-taken_in (Give piece (Some n)) = take n piece
-taken_in (Give piece None) = []
-taken_in (Len file len) = []
-taken_in (ReadAt file at asked bytes) = []
-taken_in (WriteAt file at bytes done) = []
-taken_in (Cut file len done) = []
-taken_in (Sync file done) = []
-taken_in (Take asked bytes) = []
-
--- and in several
-abbrev pub taken_by : List Call → List ℕ
-taken_by [] = []
-taken_by (call ∷ calls) = taken_in call ++ taken_by calls
-
 -- the last of these calls is a give that failed, of all that was left of the piece, which was something
 pub record FailInside (piece : List ℕ) (calls : List Call) : Type 0 where
   pub before : List Call
   pub left : List ℕ
   pub are : calls ≡ before ++ Give left None ∷ []
-  pub whole : piece ≡ taken_by before ++ left
+  pub whole : piece ≡ given_in before ++ left
   pub some : 0 < length left

@@ -13,12 +13,12 @@ use Rattle.khepri.specs.Command.{IsPut}
 use Rattle.khepri.specs.State.{State, store_logs, store_after}
 use Rattle.khepri.specs.Store.{IsShort, OthersLeft}
 
--- the file was told, and held no log
+-- the file was told, and had fewer than 2 bytes
 abbrev pub WasShort : Option (List ℕ) → Type 0
 WasShort (Some bytes) = IsShort bytes
 WasShort None = ⊥
 
--- What a crash may leave while the empty log is written: none in file 1, which was told at entry, each other file as a crash at entry
+-- What a crash may leave while the empty log is written: fewer than 2 bytes in file 1, which was told at entry, each other file as a crash at entry
 -- might have left it, and the stamp as it was.
 pub record LeftShort (seen : Option (List ℕ)) (image : ℕ → List ℕ → Type 0) (given : ℕ) (files : Files) (s : ℕ) : Type 0 where
   pub told : IsSome seen
@@ -26,8 +26,8 @@ pub record LeftShort (seen : Option (List ℕ)) (image : ℕ → List ℕ → Ty
   pub short : IsShort files.l0
   pub others : OthersLeft 1 image files
 
--- What a crash may leave while a log is begun: what a crash at entry might have left, or of file 1 alone something else, which is no log,
--- where it held none. The stamp is as it was.
+-- What a crash may leave while a log is begun: what a crash at entry might have left, or of file 1 alone something else of fewer than 2
+-- bytes, where it had so few. The stamp is as it was.
 pub record Beginning (seen : Option (List ℕ)) (image : ℕ → List ℕ → Type 0) (given : ℕ) (files : Files) (s : ℕ) : Type 0 where
   pub stamp : s ≡ given
   pub log : image 1 files.l0 ⊎ (IsShort files.l0 × WasShort seen)

@@ -2,10 +2,11 @@ use Rattle.std.proofs.Common.{◌≡◌, ◌<◌, Err, Some, sym, ap, arith}
 use Rattle.kh_io.specs.Disk.{TellsFiles}
 use Rattle.kh_io.proofs.{both, stays_both}
 use Rattle.kh_log.specs.Records.{records_of, lacking_in}
+use Rattle.kh_log.proofs.{read_both}
 use Rattle.khepri.specs.State.{empty}
 use Rattle.khepri.specs.Recovery.{Recovered, Damaged, Replays, ReplaysUnless}
 use Rattle.khepri.proofs.Safe.{still_safe, all_safe, log_safe}
-use Rattle.khepri.proofs.Open.{synced, begins, opens, read_on, told_back, files_told, content_before, lacking_before, replays_before, lacks_at, lacks_recovers, closed_there, there_still, begun_between}
+use Rattle.khepri.proofs.Open.{synced, begins, opens, told_back, files_told, content_before, lacking_before, replays_before, lacks_at, lacks_recovers, closed_there, there_still, begun_between}
 use Rattle.khepri.proofs.LogAlone.{read_alone, synced_alone, begun_alone, written_then}
 use Rattle.khepri.proofs.Replaying.{fault_opening}
 use Rattle.khepri.proofs.Opened.{opened_by, gates_read, records_read, FailsIn, sync_fails_in, begin_fails_in, begins_by, open_fails_in, replay_fails_in}
@@ -31,7 +32,7 @@ returns-in_err-tree-clause-any_moment g c =
     let host = g.H.Disk in
     let s = c.sync_all.ensures in
     let b = c.begin_log.ensures in
-    opens (host.seen c.args.host.now) _ _ _ (host.image c.begin_log.new.host) _ _ _ s.any_moment b.any_moment (read_on c.open.ensures.any_moment c.replay.ensures.any_moment c.open.ensures.files c.open.ensures.stamp) (s.reads 1 (omega arith)) s.no_new_images s.stamp b.stamp
+    opens (host.seen c.args.host.now) _ _ _ (host.image c.begin_log.new.host) _ _ _ s.any_moment b.any_moment (read_both c.open.ensures.files c.open.ensures.stamp c.open.ensures.any_moment c.replay.ensures.any_moment) (s.reads 1 (omega arith)) s.no_new_images s.stamp b.stamp
     b.images (λ file lt other. (b.others file lt other).only)
 
 pub returns-clause-any_moment : goal.returns-clause-any_moment
@@ -39,7 +40,7 @@ returns-clause-any_moment g c =
     let host = g.H.Disk in
     let s = c.sync_all.ensures in
     let b = c.begin_log.ensures in
-    opens (host.seen c.args.host.now) _ _ _ (host.image c.begin_log.new.host) _ _ _ s.any_moment b.any_moment (read_on c.open.ensures.any_moment c.replay.ensures.any_moment c.open.ensures.files c.open.ensures.stamp) (s.reads 1 (omega arith)) s.no_new_images s.stamp b.stamp
+    opens (host.seen c.args.host.now) _ _ _ (host.image c.begin_log.new.host) _ _ _ s.any_moment b.any_moment (read_both c.open.ensures.files c.open.ensures.stamp c.open.ensures.any_moment c.replay.ensures.any_moment) (s.reads 1 (omega arith)) s.no_new_images s.stamp b.stamp
     b.images (λ file lt other. (b.others file lt other).only)
 
 pub returns-in_err-log-clause-damaged : goal.returns-in_err-log-clause-damaged
