@@ -13,7 +13,7 @@ use Rattle.kh_term.specs.declared.name.Origin.{Origin}
 use Rattle.kh_term.specs.Packed.{behind_sign, integer_len, integer_bytes, short_text}
 use Rattle.kh_term.specs.Text.{is_atom_text}
 use Rattle.kh_term.specs.WellFormed.{fits_128, is_origin}
-use Rattle.kh_term.specs.Lemmas.Integers.{len_holds, bits_of, fits_behind_sign}
+use Rattle.kh_term.proofs.Integers.{len_holds, bits_of, fits_behind_sign}
 use Rattle.kh_pack.specs.Reading.{◌>>=◌, first_at, front_at, count_at, fewest, integer_at, text_at, binary_at, origin_at}
 use Rattle.kh_pack.proofs.Numbers.{bytes_back, low_again, low_back}
 use Rattle.kh_pack.proofs.Steps.{IsBytes, IsBytes-drop, IsBytes-take, IsBytes-rest, bind_some, passed, allowed, Takes, Takes-then}

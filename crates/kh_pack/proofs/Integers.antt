@@ -6,7 +6,7 @@ use Rattle.byteorder.specs.Endian.{low_bytes}
 use Rattle.byteorder.specs.Numbers.{length-bytes_high_first}
 use Rattle.std.proofs.lemmas.Int.{to_z-of_z}
 use Rattle.kh_term.specs.Packed.{behind_sign, integer_len, integer_bytes}
-use Rattle.kh_term.specs.Lemmas.Integers.{Holds, len_holds}
+use Rattle.kh_term.proofs.Integers.{Holds, len_holds}
 
 -- an integer of 128 bits has 1 to 16 bytes
 pub len_of : (z : ℤ) → SFits w128 z → Holds (behind_sign z) (integer_len z)

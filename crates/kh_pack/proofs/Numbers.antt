@@ -9,7 +9,7 @@ use borrow.Author.Tests.{lt-ltb}
 use Rattle.byteorder.specs.Endian.{big_number, twos_complement, low_bytes}
 use Rattle.byteorder.specs.Numbers.{big_from-cons, big_from-lt}
 use Rattle.kh_term.specs.Packed.{behind_sign}
-use Rattle.kh_term.specs.Lemmas.Integers.{Holds, bits_of, kept-pos, kept-neg}
+use Rattle.kh_term.proofs.Integers.{Holds, bits_of, kept-pos, kept-neg}
 use Rattle.kh_pack.proofs.Steps.{IsBytes, IsBytes-rest}
 
 -- ---- bytes of numbers

@@ -12,7 +12,7 @@ use Rattle.kh_term.specs.Size.{width_of, greatest}
 use Rattle.kh_term.specs.WellFormed.{IsTerm, AreTerms, ArePairs, faults_of, is_origin}
 use Rattle.kh_term.specs.Text.{is_atom_text}
 use Rattle.kh_term.specs.Lemmas.Fits.{parts_of_tuple, parts_of_list, tail_of_list, parts_of_closure, pairs_of_map, origin_of_closure, sum-cons}
-use Rattle.kh_term.specs.Lemmas.Layers.{width-Bin, width-List, width-Tuple, width-Map, width-Closure, packed-Int, packed-Atom, packed-Bin, packed-List, packed-Tuple, packed-Map, packed-Closure}
+use Rattle.kh_term.proofs.Layers.{width-Bin, width-List, width-Tuple, width-Map, width-Closure, packed-Int, packed-Atom, packed-Bin, packed-List, packed-Tuple, packed-Map, packed-Closure}
 
 -- the terms can be written: each is one, and no count passes four bytes
 abbrev pub CanWrite : TermTree → Type 0

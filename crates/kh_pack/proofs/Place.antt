@@ -6,8 +6,8 @@ use Rattle.std.proofs.lemmas.Option.{same_Some}
 use Rattle.kh_term.specs.declared.term.Term.{Term}
 use Rattle.kh_term.specs.declared.tree.TermTree.{TermTree}
 use Rattle.kh_term.specs.Packed.{packed_of}
-use Rattle.kh_term.specs.Lemmas.Tags.{tagged}
-use Rattle.kh_term.specs.Lemmas.OneTree.{same_node}
+use Rattle.kh_term.proofs.Tags.{tagged}
+use Rattle.kh_term.proofs.OneTree.{same_node}
 use Rattle.kh_pack.specs.Reading.{term_at}
 use Rattle.kh_pack.specs.Standing.{IsPackedAt, IsUnlessMemory}
 use Rattle.kh_pack.proofs.Steps.{IsBytes, IsBytes-drop}

@@ -17,8 +17,8 @@ use Rattle.kh_term.specs.Text.{is_atom_text}
 use Rattle.kh_term.specs.WellFormed.{IsTerm, AreTerms, ArePairs, faults_of, fits_128, is_list, is_list_of, is_origin, keys_rise}
 use Rattle.kh_term.specs.Lemmas.Fits.{holds, sum-cons, fits_front, fits_behind, parts_of_tuple, parts_of_list, tail_of_list, ends_list, parts_of_closure, origin_of_closure, pairs_of_map, keys_rise_in}
 use Rattle.kh_term.specs.Lemmas.Induction.{by_parts, Each, OfBoth}
-use Rattle.kh_term.specs.Lemmas.Layers.{faults-Int, faults-Atom, depth-Nil, depth-List, depth-Tuple, depth-Map, depth-Closure, width-Bin, width-List, width-Tuple, width-Map, width-Closure, packed-Int, packed-Atom, packed-Bin, packed-Nil, packed-List, packed-Tuple, packed-Map, packed-Closure}
-use Rattle.kh_term.specs.Lemmas.Tags.{tag_of, tagged}
+use Rattle.kh_term.proofs.Layers.{faults-Int, faults-Atom, depth-Nil, depth-List, depth-Tuple, depth-Map, depth-Closure, width-Bin, width-List, width-Tuple, width-Map, width-Closure, packed-Int, packed-Atom, packed-Bin, packed-Nil, packed-List, packed-Tuple, packed-Map, packed-Closure}
+use Rattle.kh_term.proofs.Tags.{tag_of, tagged}
 use Rattle.kh_term.specs.Lemmas.Total.{layered}
 use Rattle.kh_pack.specs.Reading.{Read, ◌>>=◌, first_at, count_at, integer_at, text_at, binary_at, origin_at, many_at, pairs_at, tail_at, list_at, tuple_at, map_at, closure_at, flat_at, deep_at, term_at}
 use Rattle.kh_pack.proofs.FieldsRead.{count_again, text_again, binary_again, origin_again, integer_again}

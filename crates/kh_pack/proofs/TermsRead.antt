@@ -16,8 +16,8 @@ use Rattle.kh_term.specs.Make.{list_with_tail, in_front_of}
 use Rattle.kh_term.specs.Packed.{packed_of, all_packed_of, pairs_packed_of, integer_len, integer_bytes, short_text}
 use Rattle.kh_term.specs.Size.{depth_of, width_of, greatest, is_nil}
 use Rattle.kh_term.specs.WellFormed.{is_list}
-use Rattle.kh_term.specs.Lemmas.Layers.{depth-Int, depth-Atom, depth-Bin, depth-Nil, depth-List, depth-Tuple, depth-Map, depth-Closure, width-Int, width-Atom, width-Bin, width-Nil, width-List, width-Tuple, width-Map, width-Closure, packed-Int, packed-Atom, packed-Bin, packed-Nil, packed-List, packed-Tuple, packed-Map, packed-Closure}
-use Rattle.kh_term.specs.Lemmas.Tags.{tag_of, tagged}
+use Rattle.kh_term.proofs.Layers.{depth-Int, depth-Atom, depth-Bin, depth-Nil, depth-List, depth-Tuple, depth-Map, depth-Closure, width-Int, width-Atom, width-Bin, width-Nil, width-List, width-Tuple, width-Map, width-Closure, packed-Int, packed-Atom, packed-Bin, packed-Nil, packed-List, packed-Tuple, packed-Map, packed-Closure}
+use Rattle.kh_term.proofs.Tags.{tag_of, tagged}
 use Rattle.kh_pack.specs.Reading.{Read, ◌>>=◌, first_at, count_at, integer_at, text_at, binary_at, origin_at, many_at, pairs_at, tail_at, list_at, tuple_at, map_at, closure_at, flat_at, deep_at, term_at}
 use Rattle.kh_pack.proofs.FieldsRead.{first_takes, count_takes, text_takes, binary_takes, origin_bytes, origin_takes, integer_takes}
 use Rattle.kh_pack.proofs.Steps.{IsBytes, bind_some, passed, Takes, Takes-then}

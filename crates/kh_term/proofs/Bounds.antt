@@ -8,7 +8,7 @@ use Rattle.kh_term.specs.Size.{size_of, sizes_of, pair_sizes_of, depth_of, great
 use Rattle.kh_term.specs.Packed.{packed_of, all_packed_of, pairs_packed_of}
 use Rattle.kh_term.specs.Lemmas.Fits.{sum-cons, fits_front, fits_behind, parts_of_tuple, parts_of_list, tail_of_list, ends_list, parts_of_closure, pairs_of_map}
 use Rattle.kh_term.specs.Lemmas.Induction.{by_parts, Each, OfBoth}
-use Rattle.kh_term.specs.Lemmas.Layers.{size-Int, size-Atom, size-Bin, size-Nil, size-List, size-Tuple, size-Map, size-Closure, depth-Int, depth-Atom, depth-Bin, depth-Nil, depth-List, depth-Tuple, depth-Map, depth-Closure}
+use Rattle.kh_term.proofs.Layers.{size-Int, size-Atom, size-Bin, size-Nil, size-List, size-Tuple, size-Map, size-Closure, depth-Int, depth-Atom, depth-Bin, depth-Nil, depth-List, depth-Tuple, depth-Map, depth-Closure}
 use Rattle.kh_term.proofs.Lengths.{length-Int, length-Atom, length-Bin, length-Nil, length-List, length-Tuple, length-Map, length-Closure}
 use Rattle.std.proofs.lemmas.List.{length-append}
 

@@ -7,7 +7,7 @@ use Rattle.kh_term.specs.declared.name.Origin.{Origin}
 use Rattle.kh_term.specs.declared.tree.TermTree.{TermTree}
 use Rattle.kh_term.specs.declared.tree.TermTree.TheVariants as tree
 use Rattle.kh_term.specs.Packed.{packed_of, all_packed_of, pairs_packed_of, integer_len, integer_bytes, short_text, count_bytes}
-use Rattle.kh_term.specs.Lemmas.Layers.{packed-Int, packed-Atom, packed-Bin, packed-Nil, packed-List, packed-Tuple, packed-Map, packed-Closure}
+use Rattle.kh_term.proofs.Layers.{packed-Int, packed-Atom, packed-Bin, packed-Nil, packed-List, packed-Tuple, packed-Map, packed-Closure}
 
 pub length-high_first : (k n : ℕ) → length (bytes_high_first k n) ≡ k
 length-high_first zero n = refl

@@ -11,7 +11,7 @@ use Rattle.kh_term.specs.Lookup.{IsPlaceOf, value_at, rises_after}
 use Rattle.kh_term.specs.Order.{term_cmp}
 use Rattle.kh_term.specs.WellFormed.{IsTerm, AreTerms, ArePairs}
 use Rattle.kh_term.specs.Lemmas.Fits.{fits_front, fits_behind, keys_of_map, keys_rise_in}
-use Rattle.kh_term.specs.Lemmas.Rising.{pairs_pushed, answers_rise, value_found, value_missing}
+use Rattle.kh_term.proofs.Rising.{pairs_pushed, answers_rise, value_found, value_missing}
 use Rattle.kh_term.specs.Lemmas.Total.{terms_total}
 use Rattle.kh_term.proofs.Same.{same}
 

@@ -1,5 +1,6 @@
 -- Terms that compare equal are the same.
-use Rattle.kh_term.specs.Lemmas.OneTree.{same_node}
+use Rattle.kh_term.specs.Lemmas.Alike.{both_equal, numbers, texts, origins}
+use Rattle.kh_term.proofs.OneTree.{same_node}
 use Rattle.kh_term.specs.Whole.{whole, whole_where}
 use borrow.Author.Tests.{eqb-false}
 use Rattle.std.proofs.Common.{Bool, true, nat_eq, ◌↔◌, ◌≡◌, ℕ, false, List, [], ◌∷◌, length, map, refl, ap, sym, ◌∙◌, subst, ℤ}
@@ -25,33 +26,10 @@ use Rattle.kh_term.specs.Lemmas.Keys.{not_six, six_not}
 use Rattle.kh_term.specs.Lemmas.Orders.{seen, order-Int, order-Atom, order-Bin, order-Nil, order-List, order-Tuple, order-Map, order-Closure, alike-Int, alike-Atom, alike-Bin, alike-List, alike-Tuple, alike-Map, alike-Closure}
 use Rattle.kh_term.specs.Lemmas.Total.{terms_total, layered, no_list, firsts, seconds, pairs_as_parts}
 
--- both answers are Equal where the chain of them is
-both_equal : (o r : Ordering) → ordering_then o r ≡ Equal → (o ≡ Equal) × (r ≡ Equal)
-both_equal Less r e = absurd (cc)
-both_equal Equal r e = (refl, e)
-both_equal Greater r e = absurd (cc)
-
 not_equal : (o : Ordering) → is_eq o ≡ false → o ≡ Equal → ⊥
 not_equal Less h e = cc
 not_equal Equal h e = cc
 not_equal Greater h e = cc
-
-numbers : (m n : ℕ) → nat_cmp m n ≡ Equal → m ≡ n
-numbers m n e = ranked m n Equal (sym e)
-
-pub texts : (x y : List ℕ) → slice_cmp nat_cmp x y ≡ Equal → x ≡ y
-texts [] [] e = refl
-texts [] (b ∷ y) e = absurd (cc)
-texts (a ∷ x) [] e = absurd (cc)
-texts (a ∷ x) (b ∷ y) e =
-    let both = both_equal (nat_cmp a b) (slice_cmp nat_cmp x y) e in
-    λ i. numbers a b both.0 i ∷ texts x y both.1 i
-
-origins : (a b : Origin) → origin_cmp a b ≡ Equal → a ≡ b
-origins a b e =
-    let first = both_equal (slice_cmp nat_cmp a.module b.module) _ e in
-    let second = both_equal (slice_cmp nat_cmp a.name b.name) _ first.1 in
-    λ i. record { «module» = texts a.module b.module first.0 i; name = texts a.name b.name second.0 i; arity = numbers a.arity b.arity second.1 i }
 
 abbrev Same : TermTree → Type 0
 Same a = (b : TermTree) → IsTerm a → IsTerm b → term_cmp a b ≡ Equal → a ≡ b

@@ -16,13 +16,13 @@ use Rattle.kh_term.specs.Size.{width_of, greatest}
 use Rattle.kh_term.specs.WellFormed.{IsTerm, AreTerms, ArePairs, faults_of, fits_128}
 use Rattle.kh_term.specs.Lemmas.Fits.{holds, sum-cons, fits_front, fits_behind, parts_of_tuple, parts_of_list, tail_of_list, parts_of_closure, pairs_of_map}
 use Rattle.kh_term.specs.Lemmas.Induction.{by_parts, Each, OfBoth}
-use Rattle.kh_term.specs.Lemmas.Layers.{faults-Int, width-List, width-Tuple, width-Map, width-Closure, width-Bin, packed-Int, packed-Atom, packed-Bin, packed-Nil, packed-List, packed-Tuple, packed-Map, packed-Closure}
+use Rattle.kh_term.proofs.Layers.{faults-Int, width-List, width-Tuple, width-Map, width-Closure, width-Bin, packed-Int, packed-Atom, packed-Bin, packed-Nil, packed-List, packed-Tuple, packed-Map, packed-Closure}
 use Rattle.kh_term.specs.Lemmas.Total.{layered}
 use Rattle.kh_term.proofs.Lengths.{length-high_first}
-use Rattle.kh_term.specs.Lemmas.OneTree.{same_node}
+use Rattle.kh_term.proofs.OneTree.{same_node}
 use Rattle.kh_term.specs.Packed.{packed_of, all_packed_of, pairs_packed_of, behind_sign, integer_len, integer_bytes, short_text, count_bytes}
-use Rattle.kh_term.specs.Lemmas.Integers.{bits_of, Holds, len_holds, kept-pos, kept-neg, different, fits_behind_sign}
-use Rattle.kh_term.specs.Lemmas.Tags.{tag_of, tagged}
+use Rattle.kh_term.proofs.Integers.{bits_of, Holds, len_holds, kept-pos, kept-neg, different, fits_behind_sign}
+use Rattle.kh_term.proofs.Tags.{tag_of, tagged}
 
 -- lists of one length
 same_front : {A : Type 0} (x y u v : List A) → length x ≡ length y → x ++ u ≡ y ++ v → (x ≡ y) × (u ≡ v)

@@ -1,11 +1,8 @@
--- Lemmas on the definitions. The laws of the comparisons cite them, so they stand here and not among the proofs.
+-- Lemmas on the definitions that the laws of the comparisons cite, which a type's laws can't take from the proofs.
+pub mod Alike
 pub mod Fits
 pub mod Induction
-pub mod Integers
 pub mod Keys
 pub mod Layers
-pub mod OneTree
 pub mod Orders
-pub mod Rising
-pub mod Tags
 pub mod Total

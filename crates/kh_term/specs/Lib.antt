@@ -1,11 +1,15 @@
 pub mod Laws
 pub mod Lemmas
+pub mod Limits
 pub mod Lookup
 pub mod Make
+pub mod MapOf
 pub mod Name
 pub mod Order
 pub mod Packed
+pub mod Parts
 pub mod Size
 pub mod Text
+pub mod View
 pub mod WellFormed
 pub mod Whole

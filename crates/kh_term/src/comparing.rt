@@ -17,7 +17,7 @@ pub fn compare(a: &Term, b: &Term) -> Ordering
 // The rank of lists.
 const LIST: u8 = 6;
 
-#[tactic(auto, using(crate::specs::Lemmas::Layers::nils))]
+#[tactic(auto, using(crate::proofs::Layers::nils))]
 fn rank(tree: &TermTree) -> u8
     ensures { result ≡ rank_of (out-TermTree tree.now) }
 {

@@ -14,8 +14,8 @@ pub fn depth(term: &Term) -> u32
     tree_depth(&term.node)
 }
 
-#[tactic(auto, using(crate::specs::Lemmas::Layers::depths))]
-fn is_nil(tree: &TermTree) -> bool
+#[tactic(auto, using(crate::proofs::Layers::depths))]
+pub(crate) fn is_nil(tree: &TermTree) -> bool
     ensures { result ≡ is_nil (out-TermTree tree.now) }
 {
     match tree {
@@ -32,7 +32,7 @@ fn is_nil(tree: &TermTree) -> bool
 
 /// The depth of a part of a term.
 #[cycle(depth)]
-#[tactic(auto, using(crate::specs::Lemmas::Layers::depths))]
+#[tactic(auto, using(crate::proofs::Layers::depths))]
 pub fn tree_depth(tree: &TermTree) -> u32
     requires { depth_of tree.now < 2 ^ 32 }
     ensures { result ≡ depth_of tree.now }
@@ -57,7 +57,7 @@ pub fn tree_depth(tree: &TermTree) -> u32
 }
 
 #[cycle(depth)]
-#[tactic(auto, using(crate::specs::Lemmas::Layers::depths))]
+#[tactic(auto, using(crate::proofs::Layers::depths))]
 fn deepest(trees: &[TermTree]) -> u32
     requires { greatest (map depth_of trees.now) < 2 ^ 32 }
     ensures { result ≡ greatest (map depth_of trees.now) }
@@ -70,7 +70,7 @@ fn deepest(trees: &[TermTree]) -> u32
 }
 
 #[cycle(depth)]
-#[tactic(auto, using(crate::specs::Lemmas::Layers::depths))]
+#[tactic(auto, using(crate::proofs::Layers::depths))]
 fn deepest_pair(pairs: &[(TermTree, TermTree)]) -> u32
     requires { greatest (map (λ p. max (depth_of p.0) (depth_of p.1)) pairs.now) < 2 ^ 32 }
     ensures { result ≡ greatest (map (λ p. max (depth_of p.0) (depth_of p.1)) pairs.now) }

@@ -1,7 +1,8 @@
 //! Making terms of their parts.
-ghost use Rattle.std.specs.Prelude.{◌≡◌, ◌≤◌, ◌≢◌, [], ◌∷◌, ◌++◌, length, IfOk, OnOk, OnErr};
+ghost use Rattle.std.specs.Prelude.{◌≡◌, ◌≤◌, ◌≢◌, [], ◌∷◌, ◌++◌, length, slice_get, IfOk, IfSome, OnOk, OnErr};
+ghost use Rattle.std.specs.Option.{option_copied};
 ghost use Rattle.kh_term.specs.declared.tree.TermTree.TheVariants as tree;
-ghost use Rattle.kh_term.specs.WellFormed.{AreTerms};
+ghost use Rattle.kh_term.specs.WellFormed.{IsTerm, AreTerms};
 ghost use Rattle.kh_term.specs.Make.{list_of, list_with_tail, name_tree, path_tree};
 
 use crate::bytes::{Atom, Bytes};
@@ -33,6 +34,18 @@ impl Terms {
         ensures fit { AreTerms self.now.nodes }
     {
         self.nodes.as_slice()
+    }
+
+    /// The term at a place, counted from 0.
+    #[tactic(auto, using(crate::specs::Lemmas::Fits::parts))]
+    pub fn get(&self, at: usize) -> Option<&TermTree>
+        ensures term { option_copied result ≡ slice_get self.now.nodes at }
+        ensures fits { IfSome result (λ term. IsTerm term.now) }
+    {
+        match self.nodes.get(at) {
+            Some(term) => Some(term),
+            None => None,
+        }
     }
 
     /// Adds a term at the end.
@@ -175,6 +188,38 @@ pub fn map_of_one(alloc: Global, key: Term, value: Term) -> Result<Term, NoMemor
     Ok(Term {
         node: TermTree::Map(nodes),
     })
+}
+
+/// The atom of a word.
+pub fn word(alloc: Global, text: &str) -> Result<Term, NoMemory>
+    requires { length text.now ≤ 255 }
+    ensures { IfOk result (λ t. t.node ≡ tree.Atom text.now) }
+{
+    match Atom::new(Vec::from_slice(alloc, text.as_bytes())?) {
+        Some(text) => Ok(atom(text)),
+        None => unreachable!(),
+    }
+}
+
+/// A tuple of two terms.
+pub fn pair(alloc: Global, first: Term, second: Term) -> Result<Term, NoMemory>
+    ensures { IfOk result (λ t. t.node ≡ tree.Tuple (first.node ∷ second.node ∷ [])) }
+{
+    let mut parts = Terms::new(alloc);
+    parts.push(first)?;
+    parts.push(second)?;
+    Ok(tuple(parts))
+}
+
+/// A tuple of three terms.
+pub fn triple(alloc: Global, first: Term, second: Term, third: Term) -> Result<Term, NoMemory>
+    ensures { IfOk result (λ t. t.node ≡ tree.Tuple (first.node ∷ second.node ∷ third.node ∷ [])) }
+{
+    let mut parts = Terms::new(alloc);
+    parts.push(first)?;
+    parts.push(second)?;
+    parts.push(third)?;
+    Ok(tuple(parts))
 }
 
 /// The atom or the binary of a name.

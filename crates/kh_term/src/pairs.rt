@@ -1,7 +1,8 @@
 //! The keys and values of a map.
-ghost use Rattle.std.specs.Prelude.{◌≡◌, [], ◌∷◌, ◌++◌, length, if◌then◌else◌, IfOk, OnOk, OnErr, IsTrue};
+ghost use Rattle.std.specs.Prelude.{◌≡◌, [], ◌∷◌, ◌++◌, length, slice_get, if◌then◌else◌, IfOk, IfSome, OnOk, OnErr, IsTrue};
+ghost use Rattle.std.specs.Option.{option_copied};
 ghost use Rattle.kh_term.specs.Lookup.{rises_after};
-ghost use Rattle.kh_term.specs.WellFormed.{ArePairs};
+ghost use Rattle.kh_term.specs.WellFormed.{IsTerm, ArePairs};
 
 use crate::comparing::tree_cmp;
 use crate::memory::NoMemory;
@@ -32,8 +33,21 @@ impl Pairs {
         self.nodes.as_slice()
     }
 
+    /// The key and the value at a place, counted from 0.
+    #[tactic(auto, using(crate::specs::Lemmas::Fits::parts))]
+    pub fn get(&self, at: usize) -> Option<&(TermTree, TermTree)>
+        ensures pair { option_copied result ≡ slice_get self.now.nodes at }
+        ensures key_fits { IfSome result (λ pair. IsTerm pair.now.0) }
+        ensures value_fits { IfSome result (λ pair. IsTerm pair.now.1) }
+    {
+        match self.nodes.get(at) {
+            Some(pair) => Some(pair),
+            None => None,
+        }
+    }
+
     /// Whether a key is above all keys.
-    #[tactic(auto, using(crate::specs::Lemmas::Rising::lasts))]
+    #[tactic(auto, using(crate::proofs::Rising::lasts))]
     pub fn rises(&self, key: &Term) -> bool
         ensures { result ≡ rises_after self.now.nodes key.now.node }
     {

@@ -1,111 +1,94 @@
-//! Lists of paths and of texts.
+//! Lists of one type, as contracts see them.
 ghost use Rattle.std.specs.Prelude.{◌≡◌, [], ◌∷◌, ◌++◌, length, slice_get, OnOk, OnErr};
 ghost use Rattle.std.specs.Option.{option_copied};
 
 use crate::memory::NoMemory;
+use crate::name::Name;
 use crate::path::Path;
 use crate::text::Text;
 use std::alloc::Global;
 use std::marker::Model;
 
-/// Paths, one after another.
+/// Values, one after another.
 #[derive(Drop)]
-pub struct Paths {
-    all: Vec<Path>,
+pub struct Several<T> {
+    all: Vec<T>,
 }
 
-impl Model for Paths {
-    ghost use Rattle.std.specs.Prelude.{List};
-    ghost use Rattle.kh_term.specs.declared.path.Path.{Path};
-
-    ghost Value = { List Path };
-
-    ghost view = { λ paths. paths.all.items };
-}
-
-impl Paths {
-    pub fn new(alloc: Global) -> Paths
-        ensures { result ≡ [] }
-    {
-        Paths {
-            all: Vec::new(alloc),
-        }
-    }
-
-    pub fn len(&self) -> usize
-        ensures { result ≡ length self.now }
-    {
-        self.all.len()
-    }
-
-    pub fn as_slice(&self) -> &[Path]
-        ensures { result.now ≡ self.now }
-    {
-        self.all.as_slice()
-    }
-
-    pub fn get(&self, at: usize) -> Option<&Path>
-        ensures { option_copied result ≡ slice_get self.now at }
-    {
-        self.all.as_slice().get(at)
-    }
-
-    pub fn push(&mut self, path: Path) -> Result<(), NoMemory>
-        ensures ok { OnOk result (self.new ≡ self.old ++ path ∷ []) }
-        ensures err { OnErr result (self.new ≡ self.old) }
-    {
-        self.all.push(path)?;
-        Ok(())
-    }
-}
+/// Paths, one after another.
+pub type Paths = Several<Path>;
 
 /// Texts, one after another.
-#[derive(Drop)]
-pub struct Texts {
-    all: Vec<Text>,
-}
+pub type Texts = Several<Text>;
 
-impl Model for Texts {
+/// Names, one after another: as many as there are, while a `Path` has at most 32.
+pub type Names = Several<Name>;
+
+impl<T> Model for Several<T> {
     ghost use Rattle.std.specs.Prelude.{List};
-    ghost use Rattle.kh_term.specs.declared.text.Text.{Text};
+    ghost use Rattle.std.specs.Coded.{coded_list};
 
-    ghost Value = { List Text };
+    ghost Value = { List T };
 
-    ghost view = { λ texts. texts.all.items };
+    ghost coded = { coded_list T.code };
+
+    ghost view = { λ several. several.all.items };
 }
 
-impl Texts {
-    pub fn new(alloc: Global) -> Texts
+impl<T> Several<T> {
+    /// No value.
+    pub fn new(alloc: Global) -> Several<T>
         ensures { result ≡ [] }
     {
-        Texts {
+        Several {
             all: Vec::new(alloc),
         }
     }
 
+    /// The values of a vector, which takes no memory.
+    pub fn from_vec(all: Vec<T>) -> Several<T>
+        ensures { result ≡ all.items }
+    {
+        Several { all }
+    }
+
+    /// The vector of the values, which takes no memory.
+    pub fn into_vec(self) -> Vec<T>
+        ensures { result.items ≡ self }
+    {
+        let Several { all } = self;
+        all
+    }
+
+    /// How many values there are.
     pub fn len(&self) -> usize
         ensures { result ≡ length self.now }
     {
         self.all.len()
     }
 
-    pub fn as_slice(&self) -> &[Text]
+    /// The values in order.
+    pub fn as_slice(&self) -> &[T]
         ensures { result.now ≡ self.now }
     {
         self.all.as_slice()
     }
 
-    pub fn get(&self, at: usize) -> Option<&Text>
+    /// The value at a place, counted from 0.
+    pub fn get(&self, at: usize) -> Option<&T>
         ensures { option_copied result ≡ slice_get self.now at }
     {
         self.all.as_slice().get(at)
     }
+}
 
-    pub fn push(&mut self, text: Text) -> Result<(), NoMemory>
-        ensures ok { OnOk result (self.new ≡ self.old ++ text ∷ []) }
+impl<T: Drop> Several<T> {
+    /// Adds a value at the end.
+    pub fn push(&mut self, value: T) -> Result<(), NoMemory>
+        ensures ok { OnOk result (self.new ≡ self.old ++ value ∷ []) }
         ensures err { OnErr result (self.new ≡ self.old) }
     {
-        self.all.push(text)?;
+        self.all.push(value)?;
         Ok(())
     }
 }

@@ -15,7 +15,7 @@ pub fn size(term: &Term) -> u64
 
 /// The size of a part of a term.
 #[cycle(size)]
-#[tactic(auto, using(crate::specs::Lemmas::Layers::sizes))]
+#[tactic(auto, using(crate::proofs::Layers::sizes))]
 pub fn tree_size(tree: &TermTree) -> u64
     requires { size_of tree.now < 2 ^ 64 }
     ensures { result ≡ size_of tree.now }
@@ -35,7 +35,7 @@ pub fn tree_size(tree: &TermTree) -> u64
 }
 
 #[cycle(size)]
-#[tactic(auto, using(crate::specs::Lemmas::Layers::sizes))]
+#[tactic(auto, using(crate::proofs::Layers::sizes))]
 fn sizes(trees: &[TermTree]) -> u64
     requires { sizes_of trees.now < 2 ^ 64 }
     ensures { result ≡ sizes_of trees.now }
@@ -48,7 +48,7 @@ fn sizes(trees: &[TermTree]) -> u64
 }
 
 #[cycle(size)]
-#[tactic(auto, using(crate::specs::Lemmas::Layers::sizes))]
+#[tactic(auto, using(crate::proofs::Layers::sizes))]
 fn pair_sizes(pairs: &[(TermTree, TermTree)]) -> u64
     requires { pair_sizes_of pairs.now < 2 ^ 64 }
     ensures { result ≡ pair_sizes_of pairs.now }

@@ -219,7 +219,7 @@ fn lists_are_copied(rt: HostRuntime) -> Result<(), Fail> {
 }
 
 #[test]
-#[tactic(auto, using(crate::specs::Lemmas::Layers::sizes, crate::specs::Lemmas::Layers::depths, crate::proofs::Lengths::lengths))]
+#[tactic(auto, using(crate::proofs::Layers::sizes, crate::proofs::Layers::depths, crate::proofs::Lengths::lengths))]
 fn terms_are_measured(rt: HostRuntime) -> Result<(), Fail> {
     let rows = [
         ("", 1, 5),

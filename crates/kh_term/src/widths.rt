@@ -14,7 +14,7 @@ pub fn widest(term: &Term) -> usize
 
 /// The greatest width in a part of a term.
 #[cycle(width)]
-#[tactic(auto, using(crate::specs::Lemmas::Layers::widths))]
+#[tactic(auto, using(crate::proofs::Layers::widths))]
 pub fn tree_width(tree: &TermTree) -> usize
     ensures { result ≡ width_of tree.now }
 {
@@ -34,7 +34,7 @@ pub fn tree_width(tree: &TermTree) -> usize
 }
 
 #[cycle(width)]
-#[tactic(auto, using(crate::specs::Lemmas::Layers::widths))]
+#[tactic(auto, using(crate::proofs::Layers::widths))]
 fn widest_part(trees: &[TermTree]) -> usize
     ensures { result ≡ greatest (map width_of trees.now) }
 {
@@ -46,7 +46,7 @@ fn widest_part(trees: &[TermTree]) -> usize
 }
 
 #[cycle(width)]
-#[tactic(auto, using(crate::specs::Lemmas::Layers::widths))]
+#[tactic(auto, using(crate::proofs::Layers::widths))]
 fn widest_of_pairs(pairs: &[(TermTree, TermTree)]) -> usize
     ensures { result ≡ greatest (map (λ p. max (width_of p.0) (width_of p.1)) pairs.now) }
 {

@@ -11,7 +11,7 @@ use Rattle.kh_term.specs.declared.tree.TermTree.TheVariants as tree
 use Rattle.kh_term.specs.declared.tree.TermTree.TheVariants.{outs-Int, outs-Atom, outs-Nil, outs-List, outs-Tuple, outs-Map, rolls-Int, rolls-Atom, rolls-Nil, rolls-List, rolls-Tuple, rolls-Map}
 use Rattle.kh_term.specs.declared.tree.TermTree.TheOpen.{TermTree-F}
 use Rattle.kh_term.specs.declared.tree.TermTree.TheOpen as layer
-use Rattle.kh_term.specs.Lemmas.Tags.{tag_of}
+use Rattle.kh_term.proofs.Tags.{tag_of}
 use Rattle.kh_term.specs.Lemmas.Total.{layered}
 use Rattle.kh_term.specs.Make.{name_tree, path_tree}
 use Rattle.kh_term.specs.Packed.{packed_of}

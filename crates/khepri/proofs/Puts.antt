@@ -11,8 +11,8 @@ use Rattle.kh_term.specs.declared.tree.TermTree.{TermTree, out-TermTree}
 use Rattle.kh_term.specs.declared.tree.TermTree.TheVariants as tree
 use Rattle.kh_term.specs.declared.tree.TermTree.TheVariants.{outs-Int, outs-Atom, outs-Bin, outs-Nil, outs-List, outs-Tuple}
 use Rattle.kh_term.specs.declared.tree.TermTree.TheOpen.{TermTree-F}
-use Rattle.kh_term.specs.Lemmas.Tags.{tagged}
-use Rattle.kh_term.specs.Lemmas.Layers.{width-Int, width-Atom, width-Bin, width-Nil, width-List, width-Tuple, width-Map, depth-Int, depth-Atom, depth-Bin, depth-Nil, depth-List, depth-Tuple, depth-Map}
+use Rattle.kh_term.proofs.Tags.{tagged}
+use Rattle.kh_term.proofs.Layers.{width-Int, width-Atom, width-Bin, width-Nil, width-List, width-Tuple, width-Map, depth-Int, depth-Atom, depth-Bin, depth-Nil, depth-List, depth-Tuple, depth-Map}
 use Rattle.kh_term.specs.Make.{name_tree, path_tree}
 use Rattle.kh_term.specs.Name.{has_name_length, is_name, is_path}
 use Rattle.kh_term.specs.Packed.{packed_of}

@@ -1,5 +1,5 @@
 -- Which trees are terms, variant by variant, and what their parts are.
-use Rattle.std.proofs.Common.{zero, suc, ◌<◌, get_or, ◌&&◌, ◌≡◌, ℕ, ◌+◌, ◌^◌, Bool, true, false, not, IsTrue, nat_le, List, [], ◌∷◌, ◌++◌, length, map, sum, refl, ap, sym, ◌∙◌, subst, ℤ, pos, negsuc, of_z, to_z, SFits, arith}
+use Rattle.std.proofs.Common.{zero, suc, ◌<◌, get_or, slice_get, Some, ◌&&◌, ◌≡◌, ℕ, ◌+◌, ◌^◌, Bool, true, false, not, IsTrue, nat_le, List, [], ◌∷◌, ◌++◌, length, map, sum, refl, ap, sym, ◌∙◌, subst, ℤ, pos, negsuc, of_z, to_z, SFits, arith}
 use Rattle.std.specs.Int.{w128}
 use Rattle.std.proofs.lemmas.Bool.{and_from}
 use Rattle.std.proofs.lemmas.Int.{to_z-of_z}
@@ -136,6 +136,27 @@ part_of [] i t h within e = absurd (omega arith)
 part_of (x ∷ ts) zero t h within e = subst IsTerm (sym e) (fits_front x ts h)
 part_of (x ∷ ts) (suc i) t h within e = part_of ts i t (fits_behind x ts h) (omega arith) e
 
+-- the term, the key and the value at a place
+pub at_place : (ts : List TermTree) (i : ℕ) (t : TermTree) → AreTerms ts → Some t ≡ slice_get ts i → IsTerm t
+at_place [] i t h e = absurd (cc)
+at_place (x ∷ ts) zero t h e = let same : x ≡ t = cc in subst IsTerm same (fits_front x ts h)
+at_place (x ∷ ts) (suc i) t h e = at_place ts i t (fits_behind x ts h) e
+
+pair_at : (ps : List (TermTree × TermTree)) (i : ℕ) (p : TermTree × TermTree) → sum (map (λ q. faults_of q.0 + faults_of q.1) ps) ≡ 0 → Some p ≡ slice_get ps i → IsTerm p.0 × IsTerm p.1
+pair_at [] i p h e = absurd (cc)
+pair_at (q ∷ ps) zero p h e =
+    let split = sum-cons (faults_of q.0 + faults_of q.1) (map (λ r. faults_of r.0 + faults_of r.1) ps) in
+    let same : q ≡ p = cc in subst (λ r. IsTerm r.0 × IsTerm r.1) same (omega (arith, h, split), omega (arith, h, split))
+pair_at (q ∷ ps) (suc i) p h e =
+    let split = sum-cons (faults_of q.0 + faults_of q.1) (map (λ r. faults_of r.0 + faults_of r.1) ps) in
+    let none : sum (map (λ r. faults_of r.0 + faults_of r.1) ps) ≡ 0 = omega (arith, h, split) in pair_at ps i p none e
+
+pub key_at : (ps : List (TermTree × TermTree)) (i : ℕ) (p : TermTree × TermTree) → ArePairs ps → Some p ≡ slice_get ps i → IsTerm p.0
+key_at ps i p h e = (pair_at ps i p (omega (arith, h)) e).0
+
+pub value_beside : (ps : List (TermTree × TermTree)) (i : ℕ) (p : TermTree × TermTree) → ArePairs ps → Some p ≡ slice_get ps i → IsTerm p.1
+value_beside ps i p h e = (pair_at ps i p (omega (arith, h)) e).1
+
 pub key_of : (pairs : List (TermTree × TermTree)) (i : ℕ) (p : TermTree × TermTree) → ArePairs pairs → i < length pairs → p ≡ get_or pairs i p → IsTerm p.0
 key_of pairs i p h within e = go pairs i (keys_of_map pairs h) within e
   where
@@ -168,4 +189,4 @@ fits_in_front (x ∷ xs) ys t h k =
 pub ruleset terms = (fits-Int, fits-Atom, fits-Bin, fits-Nil, fits-Tuple, fits-List, fits-Map, fits-Closure, fits_proper, fits_one_pair, fits_pushed, fits_front, fits_behind, fits_more)
 
 -- what the parts of a term are, for a caller that takes them
-pub ruleset parts = (parts_of_tuple, parts_of_list, tail_of_list, parts_of_closure, pairs_of_map, keys_of_map, values_of_map, part_of, key_of, value_of)
+pub ruleset parts = (parts_of_tuple, parts_of_list, tail_of_list, parts_of_closure, pairs_of_map, keys_of_map, values_of_map, part_of, key_of, value_of, at_place, key_at, value_beside)

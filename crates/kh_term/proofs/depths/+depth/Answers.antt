@@ -1,6 +1,6 @@
 use Rattle.std.proofs.Common.{rules, sym, ◌∙◌}
 use Rattle.kh_term.specs.declared.tree.TermTree.TheViews.{the_lemmas}
-use Rattle.kh_term.specs.Lemmas.Layers.{deep-Tuple, deep-Closure, deep-List, deep-tail, deep-Map}
+use Rattle.kh_term.proofs.Layers.{deep-Tuple, deep-Closure, deep-List, deep-tail, deep-Map}
 use Rattle.kh_term.proofs.depths.+depth.Goals as goal
 
 pub tree_depth-tree_depth-behind-requires : goal.tree_depth-tree_depth-behind-requires

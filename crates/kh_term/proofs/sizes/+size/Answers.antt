@@ -2,7 +2,7 @@ use Rattle.std.proofs.Common.{rules, ◌≡◌, ◌<◌, ℕ, ◌+◌, List, len
 use Rattle.kh_term.specs.declared.tree.TermTree.{TermTree}
 use Rattle.kh_term.specs.declared.tree.TermTree.TheViews.{the_lemmas}
 use Rattle.kh_term.specs.Size.{size_of, pair_sizes_of}
-use Rattle.kh_term.specs.Lemmas.Layers.{pair_sizes-drop}
+use Rattle.kh_term.proofs.Layers.{pair_sizes-drop}
 use Rattle.kh_term.proofs.sizes.+size.Goals as goal
 
 -- a value is no larger than what is left

@@ -5,7 +5,7 @@ use Rattle.kh_term.specs.declared.tree.TermTree.TheVariants.{outs-Int, outs-Atom
 use Rattle.kh_term.specs.declared.tree.TermTree.TheOpen.{TermTree-F}
 use Rattle.kh_term.specs.declared.tree.TermTree.TheOpen as layer
 use Rattle.kh_term.specs.Lemmas.Induction.{by_parts}
-use Rattle.kh_term.specs.Lemmas.Layers.{packed-Int, packed-Atom, packed-Bin, packed-Nil, packed-List, packed-Tuple, packed-Map, packed-Closure}
+use Rattle.kh_term.proofs.Layers.{packed-Int, packed-Atom, packed-Bin, packed-Nil, packed-List, packed-Tuple, packed-Map, packed-Closure}
 use Rattle.kh_term.specs.Packed.{packed_of}
 
 -- the first byte of the packed bytes of each kind
