@@ -119,9 +119,9 @@ width-Map pairs =
     ∙ (λ i. max (length_beside {A = TermTree × TermTree} {B = ℕ × ℕ} (λ p. (width_of p.0, width_of p.1)) pairs i)
     (greatest (joined {A = TermTree × TermTree} {B = ℕ × ℕ} (λ p. (width_of p.0, width_of p.1)) (λ p. max p.0 p.1) pairs i))))
 
-pub width-Closure : (origin : Origin) (env : List TermTree) → width_of (tree.Closure origin env) ≡ max (length env) (greatest (map width_of env))
+pub width-Closure : (origin : Origin) (env : List TermTree) → width_of (tree.Closure origin env) ≡ max (max (length origin.module) (length origin.name)) (max (length env) (greatest (map width_of env)))
 width-Closure origin env =
-    ap width_of (sym (rolls-Closure origin env)) ∙ (fold-roll-TermTree ℕ width_step (layer.Closure origin env) ∙ (λ i. max (length_beside width_of env i) (greatest (map width_of env))))
+    ap width_of (sym (rolls-Closure origin env)) ∙ (fold-roll-TermTree ℕ width_step (layer.Closure origin env) ∙ (λ i. max (max (length origin.module) (length origin.name)) (max (length_beside width_of env i) (greatest (map width_of env)))))
 
 -- ---- packed bytes
 

@@ -1,15 +1,17 @@
--- For the crates above.
+-- The lemmas that the crates above cite.
 pub use Rattle.kh_term.proofs.Spelling.{one_spelling}
-mod Bounds
+pub use Rattle.kh_term.proofs.Same.{same, whole_is}
+pub mod Bounds
 mod Examples
 pub mod Integers
 pub mod Layers
-mod Lengths
+pub mod Lengths
+pub mod MapRead
 mod NamesRead
 pub mod OneTree
-mod PathLemmas
-mod Places
+pub mod PathLemmas
+pub mod Places
 pub mod Rising
-mod Same
+pub mod Same
 mod Spelling
 pub mod Tags

@@ -4,6 +4,8 @@ use Rattle.std.specs.declared.cmp.Ordering.TheVariants.{Equal}
 use Rattle.std.specs.Cmp.{IsTotalOrder}
 use Rattle.kh_term.specs.declared.name.Name.{Name}
 use Rattle.kh_term.specs.declared.term.Term.{Term}
+use Rattle.kh_term.specs.Lookup.{value_at}
+use Rattle.kh_term.specs.MapOf.{map_of, trees_of, last_at}
 use Rattle.kh_term.specs.Make.{name_tree, path_tree}
 use Rattle.kh_term.specs.Name.{name_cmp, path_cmp}
 use Rattle.kh_term.specs.Order.{term_cmp}
@@ -33,6 +35,20 @@ DepthIsAtMostSize = (x : Term) → depth_of x.node ≤ size_of x.node
 -- A term's size is at most twice the number of its packed bytes.
 abbrev pub SizeIsAtMostTwicePacked : Type 0
 SizeIsAtMostTwicePacked = (x : Term) → size_of x.node ≤ 2 * length (packed_of x.node)
+
+-- The packed bytes of a term are at most 515 times its size: a function of size 1 has two texts of 255 bytes beside
+-- their lengths, its tag, its arity and the number of its captured values.
+abbrev pub PackedIsAtMost515TimesSize : Type 0
+PackedIsAtMost515TimesSize = (x : Term) → length (packed_of x.node) ≤ 515 * size_of x.node
+
+-- A term is no wider than its packed bytes are long. So where they are fewer than 2^32, no list, tuple, map or binary
+-- in it has as many elements, pairs or bytes.
+abbrev pub WidthIsAtMostPacked : Type 0
+WidthIsAtMostPacked = (x : Term) → width_of x.node ≤ length (packed_of x.node)
+
+-- A map of pairs in any order has at each key the value beside the last pair with that key.
+abbrev pub MapsKeepTheLast : Type 0
+MapsKeepTheLast = (ps : List (Term × Term)) (key : Term) → value_at key.node (map_of (trees_of ps)) ≡ last_at key.node (trees_of ps)
 
 -- Each term has packed bytes of its own, and none are the front of another's: where two of them begin one list of
 -- bytes, they are the bytes of one term, and what follows is the same. Counts have four bytes, so the terms are less

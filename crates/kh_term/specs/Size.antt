@@ -54,8 +54,8 @@ depth_step (layer.Closure origin env) = 1 + greatest (map (λ p. p.1) env)
 abbrev pub depth_of : TermTree → ℕ
 depth_of = para-TermTree ℕ depth_step
 
--- The number of bytes of an atom or a binary, and of elements or pairs of the others, or the greatest width of a
--- part where that is more.
+-- The number of bytes of an atom or a binary and of a function's module and name, and the number of elements, pairs
+-- or captured values of the others, or the greatest width of a part where that is more.
 abbrev pub width_step : TermTree-F ℕ → ℕ
 width_step (layer.Int number) = 0
 width_step (layer.Atom text) = length text
@@ -64,8 +64,9 @@ width_step layer.Nil = 0
 width_step (layer.List parts tail) = max (length parts) (max (greatest parts) tail)
 width_step (layer.Tuple parts) = max (length parts) (greatest parts)
 width_step (layer.Map pairs) = max (length pairs) (greatest (map (λ p. max p.0 p.1) pairs))
-width_step (layer.Closure origin env) = max (length env) (greatest env)
+width_step (layer.Closure origin env) =
+    max (max (length origin.module) (length origin.name)) (max (length env) (greatest env))
 
--- the greatest number of elements, pairs or bytes that stands anywhere in a term
+-- the greatest number of elements, pairs, captured values or bytes that stands anywhere in a term
 abbrev pub width_of : TermTree → ℕ
 width_of = fold-TermTree ℕ width_step

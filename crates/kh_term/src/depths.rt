@@ -6,7 +6,8 @@ ghost use Rattle.kh_term.specs.Size.{depth_of, is_nil, greatest};
 use crate::term::Term;
 use crate::tree::TermTree;
 
-/// How deep a term is: how many terms stand one inside another, at most.
+/// The depth of a term: 0 for an integer, an atom and a binary, 1 for nil, else 1 more than the depth of the deepest
+/// part, where a nil tail isn't counted.
 pub fn depth(term: &Term) -> u32
     requires { depth_of term.now.node < 2 ^ 32 }
     ensures { result ≡ depth_of term.now.node }

@@ -1,5 +1,5 @@
 //! The laws of terms: what a clause states of every term. The functions have no code.
-ghost use Rattle.kh_term.specs.Laws.{OrderIsTotal, EqualIsSame, NamesCompareAsTerms, PathsCompareAsTerms, DepthIsAtMostSize, SizeIsAtMostTwicePacked, OnePackedSpelling};
+ghost use Rattle.kh_term.specs.Laws.{OrderIsTotal, EqualIsSame, NamesCompareAsTerms, PathsCompareAsTerms, DepthIsAtMostSize, SizeIsAtMostTwicePacked, PackedIsAtMost515TimesSize, WidthIsAtMostPacked, MapsKeepTheLast, OnePackedSpelling};
 
 /// The order of terms is a total one.
 pub fn order_is_total()
@@ -29,6 +29,21 @@ pub fn depth_is_at_most_size()
 /// A term's size is at most twice the number of its packed bytes.
 pub fn size_is_at_most_twice_packed()
     ensures { SizeIsAtMostTwicePacked }
+{}
+
+/// The packed bytes of a term are at most 515 times its size.
+pub fn packed_is_at_most_515_times_size()
+    ensures { PackedIsAtMost515TimesSize }
+{}
+
+/// A term is no wider than its packed bytes are long.
+pub fn width_is_at_most_packed()
+    ensures { WidthIsAtMostPacked }
+{}
+
+/// A map of pairs in any order has at each key the value beside the last pair with that key.
+pub fn maps_keep_the_last()
+    ensures { MapsKeepTheLast }
 {}
 
 /// Each term has packed bytes of its own, and none are the front of another's.

@@ -12,6 +12,7 @@ mod laws;
 mod limits;
 mod lookup;
 mod make;
+mod mapping;
 mod memory;
 mod name;
 mod names;
@@ -36,8 +37,9 @@ pub use copying::{copy_of, copy_of_all, copy_of_pairs};
 pub use depths::{depth, tree_depth};
 pub use kinds::{Class, Kind, Weight};
 pub use laws::{
-    depth_is_at_most_size, equal_is_same, names_compare_as_terms, one_packed_spelling,
-    order_is_total, paths_compare_as_terms, size_is_at_most_twice_packed,
+    depth_is_at_most_size, equal_is_same, maps_keep_the_last, names_compare_as_terms,
+    one_packed_spelling, order_is_total, packed_is_at_most_515_times_size, paths_compare_as_terms,
+    size_is_at_most_twice_packed, width_is_at_most_packed,
 };
 pub use limits::{MOST_DEPTH, MOST_SIZE, holds_closure, is_small, tree_holds_closure};
 pub use lookup::{place_of_key, value_of_key};
@@ -45,6 +47,7 @@ pub use make::{
     atom, bin, closure, int, list, list_with_tail, map, map_of_one, nil, pair, path_term,
     term_of_name, triple, tuple, word,
 };
+pub use mapping::pairs_of;
 pub use memory::NoMemory;
 pub use name::{Name, Origin};
 pub use names::{name_of, names_of, origin_of, origin_term, path_of};

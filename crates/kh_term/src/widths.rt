@@ -5,7 +5,7 @@ ghost use Rattle.kh_term.specs.Size.{width_of, greatest};
 use crate::term::Term;
 use crate::tree::TermTree;
 
-/// The greatest number of elements, pairs or bytes that stands anywhere in a term.
+/// The greatest number of elements, pairs, captured values or bytes that stands anywhere in a term.
 pub fn widest(term: &Term) -> usize
     ensures { result ≡ width_of term.now.node }
 {
@@ -29,7 +29,10 @@ pub fn tree_width(tree: &TermTree) -> usize
         }
         TermTree::Tuple(parts) => parts.len().max(widest_part(parts.as_slice())),
         TermTree::Map(pairs) => pairs.len().max(widest_of_pairs(pairs.as_slice())),
-        TermTree::Closure(_, env) => env.len().max(widest_part(env.as_slice())),
+        TermTree::Closure(origin, env) => {
+            let texts = origin.module.as_slice().len().max(origin.name.as_slice().len());
+            texts.max(env.len().max(widest_part(env.as_slice())))
+        }
     }
 }
 
