@@ -11,7 +11,9 @@ mod NamesRead
 pub mod OneTree
 pub mod PathLemmas
 pub mod Places
+pub mod ReadBack
 pub mod Rising
 pub mod Same
 mod Spelling
 pub mod Tags
+mod Views

@@ -59,7 +59,7 @@ name_in_is (layer.Tuple parts) n e = absurd (cc)
 name_in_is (layer.Map pairs) n e = absurd (cc)
 name_in_is (layer.Closure origin env) n e = absurd (cc)
 
-names_are : (ts : List TermTree) (ns : List Name) → Some ns ≡ names_of ts → (length ns ≡ length ts) × (list_all is_name ns ≡ true)
+pub names_are : (ts : List TermTree) (ns : List Name) → Some ns ≡ names_of ts → (length ns ≡ length ts) × (list_all is_name ns ≡ true)
 names_are [] ns e = let same : ns ≡ [] = cc in (ap length same, ap (list_all is_name) same)
 names_are (t ∷ ts) ns e = go (name_of t) (names_of ts) refl (names_are ts) e
   where

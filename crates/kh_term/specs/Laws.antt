@@ -1,5 +1,5 @@
 -- The laws of terms.
-use Rattle.std.specs.Prelude.{◌≡◌, ◌≤◌, ◌<◌, ◌*◌, ◌^◌, ◌↔◌, ℕ, List, ◌++◌, length}
+use Rattle.std.specs.Prelude.{◌≡◌, ◌≤◌, ◌<◌, ◌*◌, ◌^◌, ◌↔◌, ℕ, List, ◌++◌, length, IsTrue, Some}
 use Rattle.std.specs.declared.cmp.Ordering.TheVariants.{Equal}
 use Rattle.std.specs.Cmp.{IsTotalOrder}
 use Rattle.kh_term.specs.declared.name.Name.{Name}
@@ -7,7 +7,9 @@ use Rattle.kh_term.specs.declared.term.Term.{Term}
 use Rattle.kh_term.specs.Lookup.{value_at}
 use Rattle.kh_term.specs.MapOf.{map_of, trees_of, last_at}
 use Rattle.kh_term.specs.Make.{name_tree, path_tree}
-use Rattle.kh_term.specs.Name.{name_cmp, path_cmp}
+use Rattle.kh_term.specs.declared.name.Origin.{Origin}
+use Rattle.kh_term.specs.Name.{name_cmp, path_cmp, is_path}
+use Rattle.kh_term.specs.Parts.{path_of, origin_of, origin_tree}
 use Rattle.kh_term.specs.Order.{term_cmp}
 use Rattle.kh_term.specs.Packed.{packed_of}
 use Rattle.kh_term.specs.Size.{size_of, depth_of, width_of}
@@ -49,6 +51,14 @@ WidthIsAtMostPacked = (x : Term) → width_of x.node ≤ length (packed_of x.nod
 -- A map of pairs in any order has at each key the value beside the last pair with that key.
 abbrev pub MapsKeepTheLast : Type 0
 MapsKeepTheLast = (ps : List (Term × Term)) (key : Term) → value_at key.node (map_of (trees_of ps)) ≡ last_at key.node (trees_of ps)
+
+-- A term stands for a path exactly where it is the list of the path's names.
+abbrev pub PathsReadBack : Type 0
+PathsReadBack = (x : Term) (p : List Name) → (path_of x.node ≡ Some p) ↔ ((x.node ≡ path_tree p) × IsTrue (is_path p))
+
+-- A term stands for an origin exactly where it is the origin's triple.
+abbrev pub OriginsReadBack : Type 0
+OriginsReadBack = (x : Term) (o : Origin) → (origin_of x.node ≡ Some o) ↔ ((x.node ≡ origin_tree o) × (o.arity < 256))
 
 -- Each term has packed bytes of its own, and none are the front of another's: where two of them begin one list of
 -- bytes, they are the bytes of one term, and what follows is the same. Counts have four bytes, so the terms are less

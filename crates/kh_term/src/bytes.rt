@@ -33,6 +33,7 @@ impl Model for Bytes {
 }
 
 impl Bytes {
+    /// The binary of these bytes, which takes no memory.
     pub fn new(bytes: Vec<u8>) -> Bytes
         ensures { result ≡ bytes.items }
     {
@@ -40,6 +41,7 @@ impl Bytes {
         Bytes { bytes }
     }
 
+    /// The bytes.
     pub fn as_slice(&self) -> &[u8]
         ensures bytes { result.now ≡ self.now }
         ensures fits { IsTrue (are_bytes self.now) }
@@ -47,6 +49,7 @@ impl Bytes {
         self.bytes.as_slice()
     }
 
+    /// A copy.
     pub fn copy(&self, alloc: Global) -> Result<Bytes, NoMemory>
         ensures { IfOk result (λ b. b ≡ self.now) }
     {
@@ -55,7 +58,7 @@ impl Bytes {
     }
 }
 
-// Whether bytes are UTF-8.
+/// Whether bytes are UTF-8.
 pub fn is_valid_utf8(bytes: &[u8]) -> bool
     ensures { result ≡ is_utf8 bytes.now }
 {
@@ -97,6 +100,7 @@ impl Atom {
         Some(Atom { text })
     }
 
+    /// The bytes of the text, which are UTF-8.
     pub fn as_slice(&self) -> &[u8]
         ensures text { result.now ≡ self.now }
         ensures fits { IsTrue (is_atom_text self.now) }
@@ -104,6 +108,7 @@ impl Atom {
         self.text.as_slice()
     }
 
+    /// A copy.
     pub fn copy(&self, alloc: Global) -> Result<Atom, NoMemory>
         ensures { IfOk result (λ a. a ≡ self.now) }
     {

@@ -10,6 +10,7 @@ use sqlite_items::{Boxed, Items};
 use std::alloc::Global;
 
 impl Term {
+    /// A copy, part by part.
     pub fn copy(&self, alloc: Global) -> Result<Term, NoMemory>
         ensures { IfOk result (λ t. t ≡ self.now) }
     {
@@ -19,6 +20,7 @@ impl Term {
 }
 
 impl Terms {
+    /// A copy, part by part.
     pub fn copy(&self, alloc: Global) -> Result<Terms, NoMemory>
         ensures { IfOk result (λ ts. ts ≡ self.now) }
     {
@@ -28,6 +30,7 @@ impl Terms {
 }
 
 impl Pairs {
+    /// A copy, part by part.
     pub fn copy(&self, alloc: Global) -> Result<Pairs, NoMemory>
         ensures { IfOk result (λ ps. ps ≡ self.now) }
     {

@@ -1,5 +1,5 @@
 //! The laws of terms: what a clause states of every term. The functions have no code.
-ghost use Rattle.kh_term.specs.Laws.{OrderIsTotal, EqualIsSame, NamesCompareAsTerms, PathsCompareAsTerms, DepthIsAtMostSize, SizeIsAtMostTwicePacked, PackedIsAtMost515TimesSize, WidthIsAtMostPacked, MapsKeepTheLast, OnePackedSpelling};
+ghost use Rattle.kh_term.specs.Laws.{OrderIsTotal, EqualIsSame, NamesCompareAsTerms, PathsCompareAsTerms, DepthIsAtMostSize, SizeIsAtMostTwicePacked, PackedIsAtMost515TimesSize, WidthIsAtMostPacked, MapsKeepTheLast, PathsReadBack, OriginsReadBack, OnePackedSpelling};
 
 /// The order of terms is a total one.
 pub fn order_is_total()
@@ -44,6 +44,16 @@ pub fn width_is_at_most_packed()
 /// A map of pairs in any order has at each key the value beside the last pair with that key.
 pub fn maps_keep_the_last()
     ensures { MapsKeepTheLast }
+{}
+
+/// A term stands for a path exactly where it is the list of the path's names.
+pub fn paths_read_back()
+    ensures { PathsReadBack }
+{}
+
+/// A term stands for an origin exactly where it is the origin's triple.
+pub fn origins_read_back()
+    ensures { OriginsReadBack }
 {}
 
 /// Each term has packed bytes of its own, and none are the front of another's.

@@ -38,8 +38,8 @@ pub use depths::{depth, tree_depth};
 pub use kinds::{Class, Kind, Weight};
 pub use laws::{
     depth_is_at_most_size, equal_is_same, maps_keep_the_last, names_compare_as_terms,
-    one_packed_spelling, order_is_total, packed_is_at_most_515_times_size, paths_compare_as_terms,
-    size_is_at_most_twice_packed, width_is_at_most_packed,
+    one_packed_spelling, order_is_total, origins_read_back, packed_is_at_most_515_times_size,
+    paths_compare_as_terms, paths_read_back, size_is_at_most_twice_packed, width_is_at_most_packed,
 };
 pub use limits::{MOST_DEPTH, MOST_SIZE, holds_closure, is_small, tree_holds_closure};
 pub use lookup::{place_of_key, value_of_key};

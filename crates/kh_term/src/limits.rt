@@ -85,7 +85,9 @@ fn capped_size(tree: &TermTree) -> u64
         TermTree::List(parts, tail) => {
             let units = parts.len() as u64;
             let inner = capped_sizes(parts.as_slice());
-            units.saturating_add(inner).saturating_add(capped_size(tail.get()))
+            units
+                .saturating_add(inner)
+                .saturating_add(capped_size(tail.get()))
         }
         TermTree::Tuple(parts) => capped_sizes(parts.as_slice()).saturating_add(1),
         TermTree::Map(pairs) => capped_pair_sizes(pairs.as_slice()).saturating_add(1),

@@ -15,6 +15,7 @@ use sqlite_items::{Boxed, Items};
 use std::alloc::Global;
 
 impl Terms {
+    /// No term.
     pub fn new(alloc: Global) -> Terms
         ensures { result.nodes ≡ [] }
     {
@@ -23,12 +24,14 @@ impl Terms {
         }
     }
 
+    /// The number of terms.
     pub fn len(&self) -> usize
         ensures { result ≡ length self.now.nodes }
     {
         self.nodes.len()
     }
 
+    /// The terms in order.
     pub fn as_slice(&self) -> &[TermTree]
         ensures terms { result.now ≡ self.now.nodes }
         ensures fit { AreTerms self.now.nodes }
@@ -59,6 +62,7 @@ impl Terms {
     }
 }
 
+/// An integer.
 #[tactic(auto, using(crate::specs::Lemmas::Fits::terms))]
 pub fn int(number: i128) -> Term
     ensures { result.node ≡ tree.Int number }
@@ -68,6 +72,7 @@ pub fn int(number: i128) -> Term
     }
 }
 
+/// An atom.
 #[tactic(auto, using(crate::specs::Lemmas::Fits::terms))]
 pub fn atom(text: Atom) -> Term
     ensures { result.node ≡ tree.Atom text }
@@ -78,8 +83,8 @@ pub fn atom(text: Atom) -> Term
     }
 }
 
-#[tactic(auto, using(crate::specs::Lemmas::Fits::terms))]
 /// A binary of these bytes.
+#[tactic(auto, using(crate::specs::Lemmas::Fits::terms))]
 pub fn bin(bytes: Bytes) -> Term
     ensures { result.node ≡ tree.Bin bytes }
 {
@@ -89,6 +94,7 @@ pub fn bin(bytes: Bytes) -> Term
     }
 }
 
+/// Nil, the empty list.
 #[tactic(auto, using(crate::specs::Lemmas::Fits::terms))]
 pub fn nil() -> Term
     ensures { result.node ≡ tree.Nil }
@@ -98,6 +104,7 @@ pub fn nil() -> Term
     }
 }
 
+/// The tuple of these terms.
 #[tactic(auto, using(crate::specs::Lemmas::Fits::terms))]
 pub fn tuple(parts: Terms) -> Term
     ensures { result.node ≡ tree.Tuple parts.nodes }
@@ -108,8 +115,8 @@ pub fn tuple(parts: Terms) -> Term
     }
 }
 
-#[tactic(auto, using(crate::specs::Lemmas::Fits::terms))]
 /// The list of these terms, nil where there are none.
+#[tactic(auto, using(crate::specs::Lemmas::Fits::terms))]
 pub fn list(alloc: Global, parts: Terms) -> Result<Term, NoMemory>
     ensures { IfOk result (λ t. t.node ≡ list_of parts.nodes) }
 {
@@ -176,8 +183,8 @@ pub fn closure(origin: Origin, env: Terms) -> Term
     }
 }
 
-#[tactic(auto, using(crate::specs::Lemmas::Fits::terms))]
 /// The map with this one key.
+#[tactic(auto, using(crate::specs::Lemmas::Fits::terms))]
 pub fn map_of_one(alloc: Global, key: Term, value: Term) -> Result<Term, NoMemory>
     ensures { IfOk result (λ t. t.node ≡ tree.Map ((key.node, value.node) ∷ [])) }
 {

@@ -25,6 +25,7 @@ pub struct Origin {
 }
 
 impl Name {
+    /// A copy.
     pub fn copy(&self, alloc: Global) -> Result<Name, NoMemory>
         ensures { IfOk result (λ name. name ≡ self.now) }
     {
@@ -34,7 +35,7 @@ impl Name {
         }
     }
 
-    /// Whether it may name a node.
+    /// Whether it may name a node: it has 1 to 255 bytes and is neither `.` nor `^`.
     pub fn is_name(&self) -> bool
         ensures { result ≡ is_name self.now }
     {
@@ -46,6 +47,7 @@ impl Name {
 }
 
 impl Origin {
+    /// A copy.
     pub fn copy(&self, alloc: Global) -> Result<Origin, NoMemory>
         ensures { IfOk result (λ origin. origin ≡ self.now) }
     {

@@ -12,6 +12,7 @@ use sqlite_items::Items;
 use std::alloc::Global;
 
 impl Pairs {
+    /// No key.
     pub fn new(alloc: Global) -> Pairs
         ensures { result.nodes ≡ [] }
     {
@@ -20,12 +21,14 @@ impl Pairs {
         }
     }
 
+    /// The number of keys.
     pub fn len(&self) -> usize
         ensures { result ≡ length self.now.nodes }
     {
         self.nodes.len()
     }
 
+    /// The keys with their values, by rising keys.
     pub fn as_slice(&self) -> &[(TermTree, TermTree)]
         ensures pairs { result.now ≡ self.now.nodes }
         ensures fit { ArePairs self.now.nodes }

@@ -51,6 +51,7 @@ impl Path {
         Some(Path { names })
     }
 
+    /// The number of names, at most 32.
     pub fn len(&self) -> usize
         ensures len { result ≡ length self.now }
         ensures short { result ≤ 32 }
@@ -58,6 +59,7 @@ impl Path {
         self.names.len()
     }
 
+    /// The names, from the root on.
     pub fn names(&self) -> &[Name]
         ensures names { result.now ≡ self.now }
         ensures fits { IsTrue (is_path self.now) }
@@ -75,6 +77,7 @@ impl Path {
         Ok(Path { names })
     }
 
+    /// A copy.
     pub fn copy(&self, alloc: Global) -> Result<Path, NoMemory>
         ensures { IfOk result (λ path. path ≡ self.now) }
     {

@@ -1,15 +1,19 @@
 //! The order of terms by a table that was written by hand, and the calls that allocate or ask something.
-ghost use Rattle.std.specs.Prelude.{◌≡◌, IfOk};
+ghost use Rattle.std.specs.Prelude.{◌≡◌, ◌<◌, IfOk};
 ghost use Rattle.kh_term.specs.declared.tree.TermTree.TheVariants as tree;
 
 use crate::{
-    Atom, Bytes, Name, NoMemory, Origin, Pairs, Path, Paths, Term, Terms, Text, Texts, atom, bin,
-    closure, compare, copy_of, copy_of_all, copy_of_pairs, depth, int, list, list_with_tail, map,
-    map_of_one, nil, packed_len, path_term, place_of_key, size, tuple, value_of_key, widest,
+    Atom, Bytes, Closure, Kind, Name, Names, NoMemory, NodeView, Origin, Pairs, Path, Paths, Steps,
+    Term, Terms, Text, Texts, atom, bin, closure, compare, copy_of, copy_of_all, copy_of_pairs,
+    depth, holds_closure, int, is_small, list, list_with_tail, map, map_of_one, name_of, names_of,
+    nil, origin_of, origin_term, packed_len, pair, pairs_of, path_of, path_term, place_of_key,
+    size, triple, tuple, value_of_key, widest,
 };
 use std::alloc::Global;
 use std::cmp::Ordering;
-use std::collections::BTreeMap;
+use std::collections::{BTreeMap, HashMap};
+use std::marker::Brand;
+use std::sync::ledger::{Blank, Ledger};
 use std::test::Fail;
 
 fn word(alloc: Global, text: &[u8]) -> Result<Atom, NoMemory> {
@@ -246,4 +250,203 @@ fn terms_are_measured(rt: HostRuntime) -> Result<(), Fail> {
         assert_eq!(rt; packed_len(&int(number)), packed, "at {number}");
     }
     Ok(())
+}
+
+#[test]
+fn the_last_of_equal_keys_counts(rt: HostRuntime) -> Result<(), Fail> {
+    let alloc = rt.alloc();
+    // pairs in any order, and the map of them
+    let rows: [(&[(i128, i128)], &[(i128, i128)]); 5] = [
+        (&[], &[]),
+        (&[(1, 2)], &[(1, 2)]),
+        (&[(3, 0), (1, 2), (2, 9)], &[(1, 2), (2, 9), (3, 0)]),
+        (&[(1, 2), (1, 3), (1, 4)], &[(1, 4)]),
+        (&[(2, 0), (1, 5), (2, 7), (1, 6)], &[(1, 6), (2, 7)]),
+    ];
+    for (given, kept) in rows {
+        let mut all = Vec::new(alloc);
+        for (key, value) in given {
+            all.push((int(*key), int(*value)))?;
+        }
+        let found = map(pairs_of(alloc, all)?);
+        assert_eq!(rt;
+            compare(&found, &pairs(alloc, kept)?),
+            Ordering::Equal,
+            "at {given:?}"
+        );
+    }
+    Ok(())
+}
+
+// Whether a function is read from its term and made into it again.
+fn is_read_again(alloc: Global, term: &Term) -> Result<bool, NoMemory> {
+    match Closure::of_term(alloc, term)? {
+        Some(found) => Ok(compare(&found.copy(alloc)?.into_term(), term).is_eq()),
+        None => Ok(false),
+    }
+}
+
+// Whether an origin is read from its triple.
+fn is_origin_again(alloc: Global, origin: &Origin) -> Result<bool, NoMemory> {
+    let triple = origin_term(alloc, origin)?;
+    match origin_of(alloc, &triple.node)? {
+        Some(found) => Ok(found == *origin),
+        None => Ok(false),
+    }
+}
+
+#[test]
+fn functions_are_read_and_measured(rt: HostRuntime) -> Result<(), Fail> {
+    let alloc = rt.alloc();
+    // the names of a function, and the width of its term with one captured value
+    for (module, name, width) in [("m", "f", 1), ("", "", 1), ("ab", "c", 2), ("a", "bcd", 3)] {
+        let term = function(alloc, module.as_bytes(), name.as_bytes(), 2, &[7])?;
+        assert_eq!(rt; widest(&term), width, "at {module}");
+        assert!(rt; is_read_again(alloc, &term)?);
+        assert!(rt; holds_closure(&term));
+        assert!(rt; holds_closure(&map_of_one(alloc, term, nil())?));
+    }
+    assert!(rt; !holds_closure(&tuple(numbers(alloc, &[1])?)));
+    assert!(rt; Closure::of_term(alloc, &nil())?.is_none());
+    Ok(())
+}
+
+#[test]
+fn origins_are_read_again(rt: HostRuntime) -> Result<(), Fail> {
+    let alloc = rt.alloc();
+    for arity in [0, 255] {
+        let module = word(alloc, b"m")?;
+        let name = word(alloc, b"")?;
+        let origin = Origin {
+            module,
+            name,
+            arity,
+        };
+        assert!(rt; is_origin_again(alloc, &origin)?);
+    }
+    Ok(())
+}
+
+#[test]
+fn terms_stand_for_names(rt: HostRuntime) -> Result<(), Fail> {
+    let alloc = rt.alloc();
+    let key = path(alloc, &["a", "b"])?;
+    let term = path_term(alloc, &key)?;
+    assert!(rt; path_of(alloc, &term.node)?.ok_or("no path")? == key);
+    let elements = [int(1), atom(word(alloc, b".")?), bytes(alloc, b"")?];
+    for element in elements {
+        assert!(rt; name_of(alloc, &element.node)?.is_none());
+        let mut parts = Terms::new(alloc);
+        parts.push(element)?;
+        assert!(rt; names_of(alloc, parts.as_slice())?.is_none());
+        assert!(rt; path_of(alloc, &list(alloc, parts)?.node)?.is_none());
+    }
+    for parts in [[1, 2].as_slice(), [1, 2, 3].as_slice()] {
+        let parts = numbers(alloc, parts)?;
+        assert!(rt; parts.get(2).is_some() == (parts.len() == 3));
+        assert!(rt; origin_of(alloc, &tuple(parts).node)?.is_none());
+    }
+    let two = pair(alloc, int(1), nil())?;
+    let three = triple(alloc, crate::word(alloc, "ok")?, nil(), nil())?;
+    assert_eq!(rt; compare(&two, &three), Ordering::Less);
+    Ok(())
+}
+
+#[test]
+fn names_are_hashed(rt: HostRuntime) -> Result<(), Fail> {
+    let alloc = rt.alloc();
+    let mut counts = HashMap::new(alloc);
+    for text in ["a", "b", "a"] {
+        let name = Name::Atom(word(alloc, text.as_bytes())?);
+        counts.insert(name, text.len())?;
+        let name = Name::Bin(Bytes::new(Vec::from_slice(alloc, text.as_bytes())?));
+        counts.insert(name, text.len())?;
+    }
+    assert_eq!(rt; counts.len(), 4);
+    let mut origins = HashMap::new(alloc);
+    for arity in [1, 2, 1] {
+        let module = word(alloc, b"m")?;
+        let name = word(alloc, b"f")?;
+        let origin = Origin {
+            module,
+            name,
+            arity,
+        };
+        origins.insert(origin, arity)?;
+    }
+    assert_eq!(rt; origins.len(), 2);
+    Ok(())
+}
+
+// Tuples, one in another.
+fn nested(alloc: Global, levels: u32) -> Result<Term, NoMemory> {
+    let mut term = int(0);
+    for _ in 0..levels {
+        let mut parts = Terms::new(alloc);
+        parts.push(term)?;
+        term = tuple(parts);
+    }
+    Ok(term)
+}
+
+// A tuple of so many nils.
+fn wide(alloc: Global, count: u32) -> Result<Term, NoMemory> {
+    let mut parts = Terms::new(alloc);
+    for _ in 0..count {
+        parts.push(nil())?;
+    }
+    Ok(tuple(parts))
+}
+
+#[test]
+fn limits_are_tested(rt: HostRuntime) -> Result<(), Fail> {
+    let alloc = rt.alloc();
+    assert!(rt; is_small(&nested(alloc, 200)?));
+    assert!(rt; !is_small(&nested(alloc, 201)?));
+    assert!(rt; is_small(&wide(alloc, 1_048_575)?));
+    assert!(rt; !is_small(&wide(alloc, 1_048_576)?));
+    Ok(())
+}
+
+#[test]
+fn views_are_compared(rt: HostRuntime) -> Result<(), Fail> {
+    let alloc = rt.alloc();
+    let mut views = Vec::new(alloc);
+    for number in [1, 2] {
+        views.push(NodeView {
+            name: None,
+            payload: Kind::Data,
+            datum: Some(int(number)),
+            payload_version: 1,
+            child_list_version: 1,
+            children: 0,
+        })?;
+    }
+    for (i, a) in views.iter().enumerate() {
+        for (j, b) in views.iter().enumerate() {
+            assert_eq!(rt; a.is_same(b), i == j);
+        }
+    }
+    let text = Text::new(Vec::from_slice(alloc, b"x")?).ok_or("no text")?;
+    assert_eq!(rt; text.as_str(), "x");
+    let mut names = Names::new(alloc);
+    names.push(Name::Atom(word(alloc, b"a")?))?;
+    assert_eq!(rt; Names::from_vec(names.into_vec()).len(), 1);
+    Ok(())
+}
+
+// Two steps of a counter.
+fn two_steps<L: Ledger>(blank: Blank)
+    requires name { blank.name ≡ L.name }
+    requires parts { blank.parts ≡ L.parts }
+    requires some { 0 < blank.parts }
+{
+    let mut steps = Steps::<L>::new(blank);
+    steps.tick();
+    steps.tick();
+}
+
+#[test]
+fn steps_are_counted() {
+    two_steps::<Brand>(Blank::new(1));
 }

@@ -42,6 +42,7 @@ impl Text {
         Some(Text { bytes })
     }
 
+    /// The bytes of the text.
     pub fn as_slice(&self) -> &[u8]
         ensures bytes { result.now ≡ self.now }
         ensures fits { IsTrue (is_text self.now) }
@@ -59,6 +60,7 @@ impl Text {
         }
     }
 
+    /// A copy.
     pub fn copy(&self, alloc: Global) -> Result<Text, NoMemory>
         ensures { IfOk result (λ t. t ≡ self.now) }
     {

@@ -6,6 +6,7 @@ use sqlite_items::{Boxed, Items};
 #[cycle(term)]
 #[derive(Drop)]
 pub enum TermTree {
+    /// An integer of 128 bits.
     Int(i128),
     Atom(Atom),
     Bin(Bytes),
@@ -18,6 +19,8 @@ pub enum TermTree {
     Closure(Origin, Trees),
 }
 
+/// Parts of a term, one after another.
 pub type Trees = Items<TermTree>;
 
+/// Keys and values, one after another.
 pub type TreePairs = Items<(TermTree, TermTree)>;

@@ -1,4 +1,4 @@
-ghost use Rattle.std.specs.Prelude.{◌≡◌, is_some};
+ghost use Rattle.std.specs.Prelude.{◌≡◌, ◌↔◌, IsTrue, is_some};
 ghost use Rattle.kh_term.specs.View.{is_data};
 
 use crate::kinds::Kind;
@@ -20,4 +20,13 @@ pub struct NodeView {
     /// The number of children.
     pub children: u64,
     pub ghost data_stands: { is_some datum ≡ is_data payload },
+}
+
+impl NodeView {
+    /// Whether two views are the same.
+    pub fn is_same(&self, other: &NodeView) -> bool
+        ensures { IsTrue result ↔ (self.now ≡ other.now) }
+    {
+        self == other
+    }
 }

@@ -30,7 +30,11 @@ pub fn tree_width(tree: &TermTree) -> usize
         TermTree::Tuple(parts) => parts.len().max(widest_part(parts.as_slice())),
         TermTree::Map(pairs) => pairs.len().max(widest_of_pairs(pairs.as_slice())),
         TermTree::Closure(origin, env) => {
-            let texts = origin.module.as_slice().len().max(origin.name.as_slice().len());
+            let texts = origin
+                .module
+                .as_slice()
+                .len()
+                .max(origin.name.as_slice().len());
             texts.max(env.len().max(widest_part(env.as_slice())))
         }
     }

@@ -40,7 +40,7 @@ names (name.Atom x) (name.Bin y) e = absurd (cc)
 names (name.Bin x) (name.Atom y) e = absurd (cc)
 names (name.Bin x) (name.Bin y) e = ap name.Bin (texts x y e)
 
-is_equal : (o : Ordering) → is_eq o ≡ true → o ≡ Equal
+pub is_equal : (o : Ordering) → is_eq o ≡ true → o ≡ Equal
 is_equal Less h = absurd (cc)
 is_equal Equal h = refl
 is_equal Greater h = absurd (cc)
