@@ -2,4 +2,5 @@ mod Places
 mod Chunks
 mod Lent
 mod Blocks
-pub mod Listed
+mod SizeLemmas
+mod Listed

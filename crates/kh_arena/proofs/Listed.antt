@@ -1,16 +1,21 @@
 -- The list that chunks hold: an item of it, an item more, a chunk more, and a part of it.
-use Rattle.std.proofs.Common.{◌≡◌, ℕ, zero, suc, ◌+◌, ◌*◌, ◌-◌, ◌<◌, ◌≤◌, List, [], ◌∷◌, ◌++◌, length, take, get_or, set, refl, sym, ap, subst, ◌∙◌, arith, add-one, length-append}
+use Rattle.std.proofs.Common.{◌≡◌, ℕ, zero, suc, ◌+◌, ◌-◌, ◌<◌, ◌≤◌, List, [], ◌∷◌, ◌++◌, length, take, get_or, set, min, refl, sym, ap, ◌∙◌, arith, add-one, length-append, inl, inr}
 use native.Mathlib.Nat.{not-suc-le-zero, le_of_suc-le-suc}
 use Rattle.std.proofs.Math.ListN.{get_or-append}
-use Rattle.std.proofs.lemmas.List.{get_or-append_right, set-append_left, set-append_right, length-take-le, length-set, length-replicate}
-use Rattle.std.proofs.lemmas.List.Elements.{All-append, All-set}
-use Rattle.std.proofs.lemmas.Grind.{flat_map-append}
-use Rattle.std.specs.Prelude.{Some, None, IsSome, slice_get, All}
+use Rattle.std.proofs.lemmas.List.{set-append_left, set-append_right, length-take-le, length-take, length-set, length-replicate, get_or-take, take-append-le, get_or_push, get_or-set_same, get_or-set_other}
+use Rattle.std.proofs.lemmas.List.Concat.{get_or-flat_map, flat_map-append}
+use Rattle.std.proofs.lemmas.Option.{slice_get-get_or}
+use Rattle.std.proofs.lemmas.Bool.{cases_eq}
+use Rattle.std.specs.Prelude.{Some, None, IsSome, slice_get}
+use Rattle.std.specs.List.{flat_map}
 use Rattle.std.specs.declared.option.Option.{Option}
+use denote.RawPtr.{Ptr}
 use Rattle.kh_arena.specs.declared.chunk.Chunk.{Chunk}
+use Rattle.kh_arena.specs.Sizes.{chunk_len, places_before}
+use Rattle.kh_arena.specs.Spots.{Spot, spot, spots_from}
 use Rattle.kh_arena.specs.Ownership.{empty_places}
-use Rattle.kh_arena.specs.declared.arena.TheConstants.{CHUNK_ITEMS}
-use Rattle.kh_arena.specs.Listed.{first_items, places_of, IsArena, Extends}
+use Rattle.kh_arena.specs.Listed.{first_items, places_of, spots_of, most_items, Sized, IsArena}
+use Rattle.kh_arena.proofs.SizeLemmas.{chunk_len-pos, chunk-before}
 
 module _ {X : Type 0} where
   -- n places hold at most n items
@@ -21,7 +26,7 @@ module _ {X : Type 0} where
   few_items (suc n) (None ∷ ss) = let few = few_items n ss in omega arith
 
   -- where each of the first n places holds an item, the i-th item is what the i-th place holds
-  pub item_at : (n : ℕ) (ss : List (Option X)) (i : ℕ) → length (first_items n ss) ≡ n → i < n → get_or ss i None ≡ slice_get (first_items n ss) i
+  item_at : (n : ℕ) (ss : List (Option X)) (i : ℕ) → length (first_items n ss) ≡ n → i < n → get_or ss i None ≡ slice_get (first_items n ss) i
   item_at zero ss i full l = absurd (not-suc-le-zero l)
   item_at (suc n) [] i full l = refl
   item_at (suc n) (None ∷ ss) i full l = let few = few_items n ss in absurd (omega arith)
@@ -37,131 +42,225 @@ module _ {X : Type 0} where
   first_items-cut (suc n) (suc m) (Some x ∷ ss) full l = ap (λ (xs : List X). x ∷ xs) (first_items-cut n m ss (omega arith) (le_of_suc-le-suc l))
 
   -- an item is written into the place after the first n
-  pub first_items-set : (n : ℕ) (ss : List (Option X)) (x : X) → n < length ss → first_items (suc n) (set ss n (Some x)) ≡ first_items n ss ++ x ∷ []
+  first_items-set : (n : ℕ) (ss : List (Option X)) (x : X) → n < length ss → first_items (suc n) (set ss n (Some x)) ≡ first_items n ss ++ x ∷ []
   first_items-set n [] x l = absurd (not-suc-le-zero l)
   first_items-set zero (s ∷ ss) x l = refl
   first_items-set (suc n) (None ∷ ss) x l = first_items-set n ss x (le_of_suc-le-suc l)
   first_items-set (suc n) (Some y ∷ ss) x l = ap (λ (xs : List X). y ∷ xs) (first_items-set n ss x (le_of_suc-le-suc l))
 
   -- more places at the end leave them
-  pub first_items-append : (n : ℕ) (ss ts : List (Option X)) → n ≤ length ss → first_items n (ss ++ ts) ≡ first_items n ss
+  first_items-append : (n : ℕ) (ss ts : List (Option X)) → n ≤ length ss → first_items n (ss ++ ts) ≡ first_items n ss
   first_items-append zero ss ts l = refl
   first_items-append (suc n) [] ts l = absurd (not-suc-le-zero l)
   first_items-append (suc n) (None ∷ ss) ts l = first_items-append n ss ts (le_of_suc-le-suc l)
   first_items-append (suc n) (Some x ∷ ss) ts l = ap (λ (xs : List X). x ∷ xs) (first_items-append n ss ts (le_of_suc-le-suc l))
 
   -- there are no fewer places than items
-  pub places_enough : (n : ℕ) (ss : List (Option X)) → length (first_items n ss) ≡ n → n ≤ length ss
+  places_enough : (n : ℕ) (ss : List (Option X)) → length (first_items n ss) ≡ n → n ≤ length ss
   places_enough zero ss full = omega arith
   places_enough (suc n) [] full = let none : 0 ≡ suc n = full in absurd (not-suc-le-zero {n = n} (omega arith))
   places_enough (suc n) (None ∷ ss) full = let few = few_items n ss in absurd (omega arith)
   places_enough (suc n) (Some x ∷ ss) full = let rest = places_enough n ss (omega arith) in omega arith
 
+  pub slice_get-is_some : (xs : List X) (i : ℕ) → i < length xs → IsSome (slice_get xs i)
+  slice_get-is_some [] i l = absurd (not-suc-le-zero l)
+  slice_get-is_some (x ∷ xs) zero l = refl
+  slice_get-is_some (x ∷ xs) (suc i) l = slice_get-is_some xs i (le_of_suc-le-suc l)
+
+module _ (p : Ptr) where
+  length-spots_from : (i n : ℕ) → length (spots_from p i n) ≡ n
+  unfolding spots_from
+  length-spots_from i zero = refl
+  length-spots_from i (suc n) = ap (λ (k : ℕ). suc k) (length-spots_from (suc i) n)
+
+  get_or-spots_from : (i n j : ℕ) (e : Spot) → j < n → get_or (spots_from p i n) j e ≡ spot p (i + j)
+  unfolding spots_from
+  get_or-spots_from i zero j e l = absurd (not-suc-le-zero l)
+  get_or-spots_from i (suc n) zero e l = let same : i ≡ i + 0 = omega arith in ap (spot p) same
+  get_or-spots_from i (suc n) (suc j) e l = let same : suc i + j ≡ i + suc j = omega arith in get_or-spots_from (suc i) n j e (le_of_suc-le-suc l) ∙ ap (spot p) same
+
+-- pieces side by side, of which one is replaced
+module _ {C Y : Type 0} (f : C → List Y) where
+  flat_map-same : (cs : List C) (k : ℕ) (new d : C) → f new ≡ f (get_or cs k d) → flat_map f (set cs k new) ≡ flat_map f cs
+  flat_map-same [] k new d is = refl
+  flat_map-same (c ∷ cs) zero new d is = ap (λ (ys : List Y). ys ++ flat_map f cs) is
+  flat_map-same (c ∷ cs) (suc k) new d is = ap (λ (ys : List Y). f c ++ ys) (flat_map-same cs k new d is)
+
+  flat_map-set : (cs : List C) (k j : ℕ) (new d : C) (y : Y) → k < length cs → j < length (f (get_or cs k d)) → f new ≡ set (f (get_or cs k d)) j y
+      → flat_map f (set cs k new) ≡ set (flat_map f cs) (length (flat_map f (take k cs)) + j) y
+  flat_map-set [] k j new d y l m is = absurd (not-suc-le-zero l)
+  flat_map-set (c ∷ cs) zero j new d y l m is =
+      let same : j ≡ 0 + j = omega arith in
+      ap (λ (ys : List Y). ys ++ flat_map f cs) is ∙ sym (set-append_left (f c) (flat_map f cs) j y m) ∙ ap (λ (n : ℕ). set (f c ++ flat_map f cs) n y) same
+  flat_map-set (c ∷ cs) (suc k) j new d y l m is =
+      let before = length (flat_map f (take k cs)) in
+      let all : length (f c ++ flat_map f (take k cs)) + j ≡ length (f c) + (before + j) = omega (arith, length-append (f c) (flat_map f (take k cs))) in
+      let rest : before + j ≡ length (f c) + (before + j) - length (f c) = omega arith in
+      ap (λ (ys : List Y). f c ++ ys) (flat_map-set cs k j new d y (le_of_suc-le-suc l) m is)
+      ∙ ap (λ (n : ℕ). f c ++ set (flat_map f cs) n y) rest
+      ∙ sym (set-append_right (f c) (flat_map f cs) (length (f c)) (length (f c) + (before + j)) y refl (omega arith))
+      ∙ ap (λ (n : ℕ). set (f c ++ flat_map f cs) n y) (sym all)
+
+abbrev lie : {X A : Type 0} → Chunk X A → List Spot
+lie c = spots_from c.at 0 c.len
+
 module _ {X A : Type 0} where
-  abbrev Sized : List (Chunk X A) → Type 0
-  Sized = All (λ c. c.len ≡ CHUNK_ITEMS)
+  -- what a chunk gives for each of its places
+  module _ {Y : Type 0} (f : Chunk X A → List Y) (fits : (c : Chunk X A) → length (f c) ≡ c.len) where
+    length-all : (k : ℕ) (cs : List (Chunk X A)) → Sized k cs → places_before k + length (flat_map f cs) ≡ places_before (k + length cs)
+    length-all k [] sized = let same : k ≡ k + 0 = omega arith in omega (arith, ap places_before same)
+    length-all k (c ∷ cs) sized =
+        let here : suc k + length cs ≡ k + suc (length cs) = omega arith in
+        let this : k + 0 ≡ k = omega arith in
+        let rest = length-all (suc k) cs (record { each = λ i d l. let next : k + suc i ≡ suc k + i = omega arith in sized.each (suc i) d (omega (arith, l)) ∙ ap chunk_len next }) in
+        omega (arith, length-append (f c) (flat_map f cs), fits c, sized.each 0 c (omega arith), ap chunk_len this, rest, ap places_before here)
 
-  others : (c : Chunk X A) (cs : List (Chunk X A)) → Sized (c ∷ cs) → Sized cs
-  others c cs sized k d l = sized (suc k) d (omega arith)
+    length-of : (cs : List (Chunk X A)) → Sized 0 cs → length (flat_map f cs) ≡ places_before (length cs)
+    length-of cs sized = let same : 0 + length cs ≡ length cs = omega arith in omega (arith, length-all 0 cs sized, ap places_before same)
 
-  first : (c : Chunk X A) (cs : List (Chunk X A)) → Sized (c ∷ cs) → length c.places ≡ CHUNK_ITEMS
-  first c cs sized = sym c.whole ∙ sized 0 c (omega arith)
+    length-before : (cs : List (Chunk X A)) (k : ℕ) → Sized 0 cs → k ≤ length cs → length (flat_map f (take k cs)) ≡ places_before k
+    length-before cs k sized l =
+        let few : length (take k cs) ≡ k = length-take-le k cs l in
+        length-of (take k cs) (record {
+          each = λ i d m.
+              let below : i < k = omega (arith, m, few) in
+              ap (λ (c : Chunk X A). c.len) (get_or-take k cs i d below) ∙ sized.each i d (omega (arith, below, l));
+        }) ∙ ap places_before few
 
-  pub length-places_of : (cs : List (Chunk X A)) → Sized cs → length (places_of cs) ≡ length cs * CHUNK_ITEMS
-  length-places_of [] sized = refl
-  length-places_of (c ∷ cs) sized = length-append c.places (places_of cs) ∙ omega (arith, first c cs sized, length-places_of cs (others c cs sized))
+    module _ (cs : List (Chunk X A)) (k j i : ℕ) (d : Chunk X A) (sized : Sized 0 cs) (l : k < length cs) (m : j < chunk_len k) (e : places_before k + j ≡ i) where
+      inside : j < length (f (get_or cs k d))
+      inside = let same : 0 + k ≡ k = omega arith in omega (arith, m, fits (get_or cs k d), sized.each k d l, ap chunk_len same)
 
-  -- place j of chunk k is the place k * CHUNK_ITEMS + j of all
-  pub place_at : (cs : List (Chunk X A)) (k j i : ℕ) (d : Chunk X A) → Sized cs → k < length cs → j < CHUNK_ITEMS → k * CHUNK_ITEMS + j ≡ i
-      → get_or (places_of cs) i None ≡ get_or (get_or cs k d).places j None
-  place_at [] k j i d sized l m e = absurd (not-suc-le-zero l)
-  place_at (c ∷ cs) zero j i d sized l m e =
-      let same : i ≡ j = omega (arith, e) in
-      get_or-append c.places (places_of cs) None i (omega (arith, first c cs sized)) ∙ ap (λ (n : ℕ). get_or c.places n None) same
-  place_at (c ∷ cs) (suc k) j i d sized l m e =
-      get_or-append_right c.places (places_of cs) CHUNK_ITEMS i None (first c cs sized) (omega (arith, e))
-      ∙ place_at cs k j (i - CHUNK_ITEMS) d (others c cs sized) (le_of_suc-le-suc l) m (omega (arith, e))
+      before : length (flat_map f (take k cs)) + j ≡ i
+      before = omega (arith, e, length-before cs k sized (omega (arith, l)))
 
-  -- and a write to it is one to that
-  pub place_set : (cs : List (Chunk X A)) (k j i : ℕ) (d new : Chunk X A) (s : Option X) → Sized cs → k < length cs → j < CHUNK_ITEMS → k * CHUNK_ITEMS + j ≡ i
-      → new.places ≡ set (get_or cs k d).places j s → places_of (set cs k new) ≡ set (places_of cs) i s
-  place_set [] k j i d new s sized l m e is = absurd (not-suc-le-zero l)
-  place_set (c ∷ cs) zero j i d new s sized l m e is =
-      let same : j ≡ i = omega (arith, e) in
-      ap (λ (ss : List (Option X)). ss ++ places_of cs) (is ∙ ap (λ (n : ℕ). set c.places n s) same) ∙ sym (set-append_left c.places (places_of cs) i s (omega (arith, first c cs sized)))
-  place_set (c ∷ cs) (suc k) j i d new s sized l m e is =
-      ap (λ (ss : List (Option X)). c.places ++ ss) (place_set cs k j (i - CHUNK_ITEMS) d new s (others c cs sized) (le_of_suc-le-suc l) m (omega (arith, e)) is)
-      ∙ sym (set-append_right c.places (places_of cs) CHUNK_ITEMS i s (first c cs sized) (omega (arith, e)))
+      at : (y : Y) → get_or (flat_map f cs) i y ≡ get_or (f (get_or cs k d)) j y
+      at y = ap (λ (n : ℕ). get_or (flat_map f cs) n y) (sym before) ∙ get_or-flat_map f cs k j d y l inside
 
-  -- a chunk with as many places as it holds nothing in
-  pub Sized-empty : (c : Chunk X A) → c.places ≡ empty_places CHUNK_ITEMS → Sized (c ∷ [])
-  Sized-empty c empty zero d l = c.whole ∙ ap length empty ∙ length-replicate {A = Option X} CHUNK_ITEMS None
-  Sized-empty c empty (suc k) d l = absurd (not-suc-le-zero (le_of_suc-le-suc l))
+      set-at : (new : Chunk X A) (y : Y) → f new ≡ set (f (get_or cs k d)) j y → flat_map f (set cs k new) ≡ set (flat_map f cs) i y
+      set-at new y is = flat_map-set f cs k j new d y l inside is ∙ ap (λ (n : ℕ). set (flat_map f cs) n y) before
 
-  -- the first m items are an arena
-  module _ (n m : ℕ) (cs : List (Chunk X A)) (xs : List X) (is : IsArena n cs) (view : first_items n (places_of cs) ≡ xs) (l : m ≤ length xs) where
-    pub first_items-take : first_items m (places_of cs) ≡ take m xs
-    first_items-take = first_items-cut n m (places_of cs) is.full (omega (arith, l, is.full, ap length view)) ∙ ap (take m) view
+  places_fit : (c : Chunk X A) → length c.places ≡ c.len
+  places_fit c = sym c.whole
 
-    pub IsArena-take : IsArena m cs
-    IsArena-take = record { full = ap length first_items-take ∙ length-take-le m xs l; sized = is.sized }
+  lie_fit : (c : Chunk X A) → length (lie c) ≡ c.len
+  lie_fit c = length-spots_from c.at 0 c.len
 
-  module _ (n k j i : ℕ) (cs : List (Chunk X A)) (xs : List X) (is : IsArena n cs) (view : first_items n (places_of cs) ≡ xs) (e : k * CHUNK_ITEMS + j ≡ i) (l : i < length xs) where
-    within : i < n
-    within = omega (arith, l, is.full, ap length view)
+  -- what holds of an arena whose first n places hold items
+  module _ (n r : ℕ) (cs : List (Chunk X A)) (is : IsArena n r cs) where
+    pub room-places : length (places_of cs) ≡ places_before (length cs)
+    room-places = length-of (λ c. c.places) places_fit cs is.sized
 
-    -- the item at i has its chunk
-    pub chunk_within : k < length cs
-    chunk_within = omega (arith, e, within, places_enough n (places_of cs) is.full, length-places_of cs is.sized)
+    pub room-spots : length (spots_of cs) ≡ places_before (length cs)
+    room-spots = length-of lie lie_fit cs is.sized
 
-    -- and its place there holds it
-    pub place_holds : (c : Chunk X A) → j < CHUNK_ITEMS → c ≡ get_or cs k c → get_or c.places j None ≡ slice_get xs i
-    place_holds c m found =
-        ap (λ (d : Chunk X A). get_or d.places j None) found ∙ sym (place_at cs k j i c is.sized chunk_within m e)
-        ∙ item_at n (places_of cs) i is.full within ∙ ap (λ (ys : List X). slice_get ys i) view
+    pub room-enough : n ≤ places_before (length cs)
+    room-enough = omega (arith, places_enough n (places_of cs) is.full, room-places)
 
-  -- the place after the first n has its chunk, or is in the next
-  pub chunk_or_next : (n k j : ℕ) (cs : List (Chunk X A)) → IsArena n cs → k * CHUNK_ITEMS + j ≡ n → k ≤ length cs
-  chunk_or_next n k j cs is e = omega (arith, e, places_enough n (places_of cs) is.full, length-places_of cs is.sized)
+    -- the first m items are an arena
+    module _ (m : ℕ) (l : m ≤ n) where
+      pub items-take : first_items m (places_of cs) ≡ take m (first_items n (places_of cs))
+      items-take = first_items-cut n m (places_of cs) is.full l
 
-  -- more chunks leave the list
-  first_items-more : (n : ℕ) (cs more : List (Chunk X A)) → IsArena n cs → first_items n (places_of (cs ++ more)) ≡ first_items n (places_of cs)
-  first_items-more n cs more is =
-      ap (first_items n) (flat_map-append (λ (c : Chunk X A). c.places) cs more) ∙ first_items-append n (places_of cs) (places_of more) (places_enough n (places_of cs) is.full)
+      pub IsArena-take : IsArena m r cs
+      IsArena-take = record { full = ap length items-take ∙ length-take-le m (first_items n (places_of cs)) (omega (arith, is.full, l)); sized = is.sized; room = is.room; few = omega (arith, is.few, l) }
 
-  pub first_items-extends : (n : ℕ) (cs ds : List (Chunk X A)) → IsArena n cs → Extends cs ds → first_items n (places_of ds) ≡ first_items n (places_of cs)
-  first_items-extends n cs ds is to = ap (λ (es : List (Chunk X A)). first_items n (places_of es)) to.last ∙ first_items-more n cs to.more is
+    -- the place i, which is place j of chunk k, where there are more places
+    module _ (k j i : ℕ) (e : places_before k + j ≡ i) (m : j < chunk_len k) (l : i < places_before (length cs)) where
+      pub chunk-within : k < length cs
+      chunk-within = chunk-before k (length cs) (omega (arith, e, l))
 
-  pub IsArena-extends : (n : ℕ) (cs ds : List (Chunk X A)) → IsArena n cs → Extends cs ds → IsArena n ds
-  IsArena-extends n cs ds is to = record {
-    full = ap length (first_items-extends n cs ds is to) ∙ is.full;
-    sized = subst Sized (sym to.last) (All-append (λ (c : Chunk X A). c.len ≡ CHUNK_ITEMS) cs to.more is.sized to.sized);
-  }
+      pub place-within : (c : Chunk X A) → c ≡ get_or cs k c → j < length c.places
+      place-within c found = let same : 0 + k ≡ k = omega arith in omega (arith, m, c.whole, ap (λ (d : Chunk X A). d.len) found, is.sized.each k c chunk-within, ap chunk_len same)
 
-  module _ (n k j : ℕ) (cs : List (Chunk X A)) (old new : Chunk X A) (x : X) (is : IsArena n cs) (e : k * CHUNK_ITEMS + j ≡ n) (m : j < CHUNK_ITEMS) (l : k < length cs)
-      (found : old ≡ get_or cs k old) (written : new.places ≡ set old.places j (Some x)) where
-    places_are : places_of (set cs k new) ≡ set (places_of cs) n (Some x)
-    places_are = place_set cs k j n old new (Some x) is.sized l m e (written ∙ ap (λ (c : Chunk X A). set c.places j (Some x)) found)
+      pub place-holds : (c : Chunk X A) → c ≡ get_or cs k c → i < n → get_or c.places j None ≡ slice_get (first_items n (places_of cs)) i
+      place-holds c found under =
+          ap (λ (d : Chunk X A). get_or d.places j None) found ∙ sym (at (λ d. d.places) places_fit cs k j i c is.sized chunk-within m e None)
+          ∙ item_at n (places_of cs) i is.full under
 
-    there : n < length (places_of cs)
-    there = omega (arith, e, m, l, length-places_of cs is.sized)
+      pub place-lies : (c : Chunk X A) → c ≡ get_or cs k c → i < n → slice_get (take n (spots_of cs)) i ≡ Some (spot c.at j)
+      place-lies c found under =
+          let d : Spot = spot c.at j in
+          let same : 0 + j ≡ j = omega arith in let here : 0 + k ≡ k = omega arith in
+          let many : i < length (take n (spots_of cs)) = omega (arith, under, length-take n (spots_of cs), room-spots, room-enough) in
+          slice_get-get_or (take n (spots_of cs)) i d many
+          ∙ ap (λ (s : Spot). Some s) (get_or-take n (spots_of cs) i d under ∙ at lie lie_fit cs k j i c is.sized chunk-within m e d
+          ∙ ap (λ (b : Chunk X A). get_or (lie b) j d) (sym found) ∙ get_or-spots_from c.at 0 c.len j d (omega (arith, c.whole, place-within c found)) ∙ ap (spot c.at) same)
 
-    -- an item in the place after the first n is appended to the list
-    pub first_items-put : first_items (n + 1) (places_of (set cs k new)) ≡ first_items n (places_of cs) ++ x ∷ []
-    first_items-put = ap (λ (i : ℕ). first_items i (places_of (set cs k new))) (add-one n) ∙ ap (first_items (suc n)) places_are ∙ first_items-set n (places_of cs) x there
+      -- an item in the place after the first n is appended to the list, and nothing moves
+      module _ (old new : Chunk X A) (x : X) (found : old ≡ get_or cs k old) (written : new.places ≡ set old.places j (Some x)) (stays : new.at ≡ old.at) (here : i ≡ n) where
+        new_len : new.len ≡ old.len
+        new_len = new.whole ∙ ap length written ∙ length-set old.places j (Some x) ∙ sym old.whole
 
-    pub IsArena-put : IsArena (n + 1) (set cs k new)
-    IsArena-put = record {
-      full = ap length first_items-put ∙ length-append (first_items n (places_of cs)) (x ∷ []) ∙ omega (arith, is.full);
-      sized = All-set (λ (c : Chunk X A). c.len ≡ CHUNK_ITEMS) cs k new
-          (new.whole ∙ ap length written ∙ length-set old.places j (Some x) ∙ sym old.whole ∙ ap (λ (c : Chunk X A). c.len) found ∙ is.sized k old l) is.sized;
-    }
+        places_are : places_of (set cs k new) ≡ set (places_of cs) n (Some x)
+        places_are =
+            set-at (λ c. c.places) places_fit cs k j i old is.sized chunk-within m e new (Some x) (written ∙ ap (λ (c : Chunk X A). set c.places j (Some x)) found)
+            ∙ ap (λ (h : ℕ). set (places_of cs) h (Some x)) here
 
-    -- the place is one of the chunk's
-    pub place_within : j < length old.places
-    place_within = omega (arith, m, old.whole, ap (λ (c : Chunk X A). c.len) found ∙ is.sized k old l)
+        pub spots-put : spots_of (set cs k new) ≡ spots_of cs
+        spots-put = flat_map-same lie cs k new old (ap (λ (p : Ptr). spots_from p 0 new.len) stays ∙ ap (λ (h : ℕ). spots_from old.at 0 h) new_len ∙ ap lie found)
 
-pub slice_get-is_some : {X : Type 0} (xs : List X) (i : ℕ) → i < length xs → IsSome (slice_get xs i)
-slice_get-is_some [] i l = absurd (not-suc-le-zero l)
-slice_get-is_some (x ∷ xs) zero l = refl
-slice_get-is_some (x ∷ xs) (suc i) l = slice_get-is_some xs i (le_of_suc-le-suc l)
+        pub items-put : first_items (n + 1) (places_of (set cs k new)) ≡ first_items n (places_of cs) ++ x ∷ []
+        items-put =
+            ap (λ (h : ℕ). first_items h (places_of (set cs k new))) (add-one n) ∙ ap (first_items (suc n)) places_are
+            ∙ first_items-set n (places_of cs) x (omega (arith, l, here, room-places))
+
+        pub places-put : length (places_of (set cs k new)) ≡ length (places_of cs)
+        places-put = ap length places_are ∙ length-set (places_of cs) n (Some x)
+
+        sized-put : Sized 0 (set cs k new)
+        sized-put = record {
+          each = λ h d lh.
+              let below : h < length cs = omega (arith, lh, length-set cs k new) in
+              elim (cases_eq h k) [
+                | inl eq ↦ ap (λ (g : ℕ). (get_or (set cs k new) g d).len) eq ∙ ap (λ (c : Chunk X A). c.len) (get_or-set_same cs k new d chunk-within)
+                    ∙ new_len ∙ ap (λ (c : Chunk X A). c.len) found ∙ is.sized.each k old chunk-within ∙ ap (λ (g : ℕ). chunk_len (0 + g)) (sym eq)
+                | inr ne ↦ ap (λ (c : Chunk X A). c.len) (get_or-set_other cs k h new d ne) ∙ is.sized.each h d below
+              ];
+        }
+
+        pub IsArena-put : n < most_items → IsArena (n + 1) r (set cs k new)
+        IsArena-put small = record {
+          full = ap length items-put ∙ length-append (first_items n (places_of cs)) (x ∷ []) ∙ omega (arith, is.full);
+          sized = sized-put;
+          room = is.room ∙ ap (λ (h : ℕ). min (places_before h) most_items) (sym (length-set cs k new));
+          few = omega (arith, l, here, is.room, small);
+        }
+
+    -- one more chunk, whose places are empty, leaves the items and where they lie
+    module _ (c : Chunk X A) (empty : c.places ≡ empty_places (chunk_len (length cs))) where
+      chunk_is : c.len ≡ chunk_len (length cs)
+      chunk_is = c.whole ∙ ap length empty ∙ length-replicate {A = Option X} (chunk_len (length cs)) None
+
+      pub items-grown : first_items n (places_of (cs ++ c ∷ [])) ≡ first_items n (places_of cs)
+      items-grown = ap (first_items n) (flat_map-append (λ (d : Chunk X A). d.places) cs (c ∷ [])) ∙ first_items-append n (places_of cs) (places_of (c ∷ [])) (places_enough n (places_of cs) is.full)
+
+      pub spots-grown : take n (spots_of (cs ++ c ∷ [])) ≡ take n (spots_of cs)
+      spots-grown = ap (take n) (flat_map-append lie cs (c ∷ [])) ∙ take-append-le n (spots_of cs) (spots_of (c ∷ [])) (omega (arith, room-spots, room-enough))
+
+      sized-grown : Sized 0 (cs ++ c ∷ [])
+      sized-grown = record {
+        each = λ h d lh.
+            elim (cases_eq h (length cs)) [
+              | inl eq ↦ ap (λ (b : Chunk X A). b.len) (get_or_push cs c d h (sym eq)) ∙ chunk_is ∙ ap (λ (g : ℕ). chunk_len g) (let e : length cs ≡ 0 + h = omega (arith, eq) in e)
+              | inr ne ↦ let below : h < length cs = omega (arith, ne, lh, length-append cs (c ∷ [])) in
+                  ap (λ (b : Chunk X A). b.len) (get_or-append cs (c ∷ []) d h below) ∙ is.sized.each h d below
+            ];
+      }
+
+      length-grown : length (cs ++ c ∷ []) ≡ suc (length cs)
+      length-grown = length-append cs (c ∷ []) ∙ add-one (length cs)
+
+      pub places-grown : length (places_of (cs ++ c ∷ [])) ≡ length (places_of cs) + chunk_len (length cs)
+      places-grown = length-of (λ d. d.places) places_fit (cs ++ c ∷ []) sized-grown ∙ ap places_before length-grown ∙ omega (arith, room-places)
+
+      pub IsArena-grown : IsArena n (min (r + chunk_len (length cs)) most_items) (cs ++ c ∷ [])
+      IsArena-grown = record {
+        full = ap length items-grown ∙ is.full;
+        sized = sized-grown;
+        room = omega (arith, is.room, ap places_before length-grown);
+        few = omega (arith, is.few, is.room);
+      }
+
+      pub spare-grown : n + (min (length (places_of cs)) most_items - n) < most_items → min (length (places_of cs)) most_items - n < min (length (places_of (cs ++ c ∷ []))) most_items - n
+      spare-grown l = omega (arith, l, places-grown, chunk_len-pos (length cs), room-places, room-enough)

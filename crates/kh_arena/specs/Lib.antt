@@ -1,2 +1,4 @@
+pub mod Sizes
+pub mod Spots
 pub mod Ownership
 pub mod Listed

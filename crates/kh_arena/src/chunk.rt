@@ -5,6 +5,7 @@ ghost use Rattle.std.specs.Prelude.{◌≡◌, ◌*◌, ◌^◌, ◌<◌, List, 
 ghost use Rattle.std.specs.Coded.{coded_list, coded_option};
 ghost use Rattle.std.specs.declared.option.Option.{Option};
 ghost use Rattle.std.specs.Mem.{type_size};
+ghost use Rattle.kh_arena.specs.Spots.{spot, address};
 ghost use Rattle.kh_arena.specs.Ownership.{chunk_owns, chunk_lends, empty_places};
 
 use std::alloc::Allocator;
@@ -79,6 +80,7 @@ impl<T, A: Allocator> Chunk<T, A> {
     pub(crate) fn put(&mut self, i: usize, item: T)
         requires { i < length self.old.places }
         ensures places { self.new.places ≡ slice_set self.old.places i (Some item) }
+        ensures at { self.new.at ≡ self.old.at }
         ensures by { self.new.alloc ≡ self.old.alloc }
     {
         unsafe { self.at.add(i).write(item) }
@@ -87,7 +89,8 @@ impl<T, A: Allocator> Chunk<T, A> {
     /// The item of a place that holds one.
     pub(crate) fn get(&self, i: usize) -> &T
         requires { IsSome (slice_index_or self.now.places i None) }
-        ensures { slice_index_or self.now.places i None ≡ Some result.now }
+        ensures item { slice_index_or self.now.places i None ≡ Some result.now }
+        ensures there { result.ref_ptr ≡ address (type_size T.row) (spot self.now.at i) }
     {
         unsafe { &*self.at.add(i) }
     }

@@ -1,5 +1,6 @@
 // That pushes succeed from chunk to chunk, and that a refused one changes nothing: run them too with an allocation refused.
-ghost use Rattle.std.specs.Prelude.{◌≡◌, ◌-◌, ◌+◌, ◌^◌, ◌<◌, [], ◌∷◌, ◌++◌, length};
+ghost use Rattle.std.specs.Prelude.{◌≡◌, ◌+◌, ◌<◌, ◌≤◌, [], ◌∷◌, ◌++◌, length};
+ghost use Rattle.kh_arena.specs.Listed.{items, most_items};
 
 use crate::{Arena, NoMemory};
 use std::alloc::Global;
@@ -13,9 +14,9 @@ struct Pair {
 
 // Pushes an item, a second time where the first was refused.
 fn push<T: Copy>(rt: &impl Abort, arena: &mut Arena<T>, item: T) -> u32
-    requires { length arena.old < 2 ^ 32 - 1 }
-    ensures place { result ≡ length arena.old }
-    ensures appended { arena.new ≡ arena.old ++ item ∷ [] }
+    requires { length (items arena.old) < most_items }
+    ensures place { result ≡ length (items arena.old) }
+    ensures appended { items arena.new ≡ items arena.old ++ item ∷ [] }
 {
     let before = arena.len();
     match arena.push(item) {
@@ -29,9 +30,9 @@ fn push<T: Copy>(rt: &impl Abort, arena: &mut Arena<T>, item: T) -> u32
 
 // Pushes an item, reads it, and takes it away again.
 fn read_back<T: Copy>(rt: &impl Abort, arena: &mut Arena<T>, item: T) -> T
-    requires { length arena.old < 2 ^ 32 - 1 }
+    requires { length (items arena.old) < most_items }
     ensures item { result ≡ item }
-    ensures arena { arena.new ≡ arena.old }
+    ensures arena { items arena.new ≡ items arena.old }
 {
     let place = push(rt, arena, item);
     let read = *arena.get(place);
@@ -41,8 +42,8 @@ fn read_back<T: Copy>(rt: &impl Abort, arena: &mut Arena<T>, item: T) -> T
 
 // The numbers below `count`, each at its own place.
 fn numbers(rt: &impl Abort, alloc: Global, count: u32) -> Arena<u32>
-    requires { count < 2 ^ 32 - 1 }
-    ensures { length result ≡ count }
+    requires { count < most_items }
+    ensures { length (items result) ≡ count }
 {
     let mut arena = Arena::new(alloc);
     for n in 0..count {
@@ -51,24 +52,49 @@ fn numbers(rt: &impl Abort, alloc: Global, count: u32) -> Arena<u32>
     arena
 }
 
+// Whether each of the first `count` places holds its own number.
+fn counts_up(arena: &Arena<u32>, count: u32) -> bool
+    requires { count ≤ length (items arena.now) }
+{
+    for n in 0..count {
+        if *arena.get(n) != n {
+            return false;
+        }
+    }
+    true
+}
+
+// Pushes the first `count` numbers into places that are there.
+fn fill(rt: &impl Abort, arena: &mut Arena<u32>, count: u32)
+    requires { length (items arena.old) + count < most_items }
+{
+    for n in 0..count {
+        arena.push(n).expect(rt, "a place was reserved");
+    }
+}
+
 #[test]
-fn a_cut_gives_its_places_to_later_pushes(rt: HostRuntime) {
-    let mut arena = numbers(&rt, rt.alloc(), 10_000);
+fn items_lie_on_both_sides_of_each_border(rt: HostRuntime) {
+    let mut arena = numbers(&rt, rt.alloc(), 200_000);
+    assert!(&rt; counts_up(&arena, 200_000));
     arena.cut(5000);
     assert_eq!(rt; push(&rt, &mut arena, 7), 5000);
-    assert_eq!(rt; *arena.get(4999), 4999);
     assert_eq!(rt; *arena.get(5000), 7);
+    assert!(&rt; counts_up(&arena, 5000));
     assert_eq!(rt; arena.len(), 5001);
 }
 
 #[test]
-fn items_lie_on_both_sides_of_a_border(rt: HostRuntime) {
-    for count in [4095, 4096, 4097] {
-        let mut arena = numbers(&rt, rt.alloc(), count);
-        assert_eq!(rt; push(&rt, &mut arena, 7), count);
-        assert_eq!(rt; *arena.get(0), 0);
-        assert_eq!(rt; *arena.get(count - 1), count - 1);
-        assert_eq!(rt; *arena.get(count), 7);
+fn reserved_places_take_no_more_memory(rt: HostRuntime) {
+    for count in [0, 1, 64, 65, 200, 70_000] {
+        let mut arena = numbers(&rt, rt.alloc(), 3);
+        if let Err(NoMemory) = arena.reserve(count) {
+            assert_eq!(rt; arena.len(), 3);
+            arena.reserve(count).expect(&rt, "memory is refused once");
+        }
+        assert!(&rt; arena.spare() >= count);
+        fill(&rt, &mut arena, count);
+        assert_eq!(rt; arena.len(), count + 3);
     }
 }
 
@@ -76,6 +102,7 @@ fn items_lie_on_both_sides_of_a_border(rt: HostRuntime) {
 fn an_arena_is_dropped_without_items(rt: HostRuntime) {
     let arena: Arena<u32> = Arena::new(rt.alloc());
     assert_eq!(rt; arena.len(), 0);
+    assert_eq!(rt; arena.spare(), 0);
 }
 
 #[test]
@@ -92,15 +119,6 @@ fn a_generic_caller_reads_back_items_of_two_types(rt: HostRuntime) {
     );
     assert_eq!(rt; pairs.len(), 1);
     assert_eq!(rt; *pairs.get(0), pair);
-}
-
-#[test]
-fn a_refused_chunk_leaves_the_items(rt: HostRuntime) {
-    let count = 3 * 4096 + 1;
-    let arena = numbers(&rt, rt.alloc(), count);
-    for n in 0..count {
-        assert_eq!(rt; *arena.get(n), n);
-    }
 }
 
 #[test]

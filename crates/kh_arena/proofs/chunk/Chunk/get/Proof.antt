@@ -1,5 +1,5 @@
 -- `get` hands on the `&` to the item that a `&` to the chunk holds.
-use Rattle.std.proofs.Common.{◌+◌, ◌*◌, ◌<◌, ◌^◌, List, [], ◌∷◌, ◌++◌, get_or, refl, arith, w64}
+use Rattle.std.proofs.Common.{◌+◌, ◌*◌, ◌<◌, ◌^◌, List, [], ◌∷◌, ◌++◌, get_or, refl, sym, ap, arith, w64}
 use mir.Syntax.{Fn}
 use mir.Val.{Val, vint, vptr}
 use mir.MapTy.{inst_fn}
@@ -13,20 +13,22 @@ use denote.RattleType.{owns}
 use denote.Exit.{yes}
 use denote.Builtin.{usize, RefOf}
 use denote.Memory.{hidden_shr}
-use denote.RawPtr.{RawPtr, in_a_block}
+use denote.RawPtr.{Ptr, RawPtr, in_a_block}
 use denote.Signature.{plain, types_at}
 use denote.Steps.{heard, nothing}
 use denote.Triple.Entry.{alive}
-use denote.Triple.Walked.{Stays, stay_dropped, walk_of, says, ends_at, Goes-dropped}
+use denote.Triple.Walked.{Stays, stay_dropped, walk_of, ends_at, Goes-dropped}
 use types.Kit.{‵, raw, ◌⊛◌, prop, at_ret, ◌$◌, ◌∵◌, !, qed, move, keep, use1, drop, split, split3, join, regoal, fsplit, fjoin, feq_i, flt_l, suffices, done}
 use types.Run.{stop, fld, load, look, addr, size_lit, of_opd, bin, first, blocks, exec, returns, enter}
 use types.ByLocal.{alloc_all, pass_all, free_all, look_at, get, through, sets, sets_last, env}
 use Rattle.std.specs.Prelude.{None, IsSome}
 use Rattle.std.proofs.mem.Param.{El, R, el_x}
+use Rattle.std.proofs.mem.Facts.{says_two}
 use Rattle.std.proofs.ptr.Rows.{times_below, one_below}
 use Rattle.std.proofs.alloc.Calls.{Al}
 use Rattle.std.proofs.alloc.Shapes.{after}
 use Rattle.std.proofs.raw_atomic.Walks.{proved_at}
+use Rattle.kh_arena.specs.Spots.{spot, address}
 use Rattle.kh_arena.specs.Ownership.{places_lend}
 use Rattle.kh_arena.proofs.Places.{sz}
 use Rattle.kh_arena.proofs.Chunks.{args, Cr}
@@ -37,6 +39,7 @@ use Rattle.kh_arena.proofs.chunk.Chunk.get.Statement.{statement}
 use Rattle.kh_arena.proofs.chunk.Chunk.get.Code as compiled
 
 pub get_spec : {M : Type 1} → statement M
+unfolding spot address
 get_spec 𝓤 𝓛 𝓜 𝓡 wired X A LX LA g d dd met md =
     let E : El = record { row = X; laws = LX } in
     let Z : Al = record { row = A; laws = LA; g = g; d = d; drops = dd } in
@@ -84,6 +87,6 @@ get_spec 𝓤 𝓛 𝓜 𝓡 wired X A LX LA g d dd met md =
     sets ! (bin ! (get ! refl) (get ! refl) tt) refl (tt, tt) $ sets_last ! (addr ! (through ! refl (stop !))) refl (tt, tt) $
     exec ! C Λ En (after 1 fn.body) (at_ret En Post) $ sets ! (of_opd ! (get ! refl)) refl (tt, tt) $
     returns ! (look_at ! 0 refl) $ free_all ! refl $
-    suffices ! _ (ends_at 𝓛 T hs c₀ z (vptr b (i * s + o)) (record { ref_ptr = (b, i * s + o); now = x }) (tt, (tt, tt)) (tt, (tt, tt))) $ says ! there.1 $
+    suffices ! _ (ends_at 𝓛 T hs c₀ z (vptr b (i * s + o)) (record { ref_ptr = (b, i * s + o); now = x }) (tt, (tt, tt)) (tt, (tt, tt))) $ says_two ! (there.1, sym (ap (λ (p : Ptr). address s (spot p i)) at)) $
     move ! (0 ∷ 2 ∷ []) $ join ! $ move ! (1 ∷ []) $ feq_i ! (List Val) (vptr b (i * s + o) ∷ []) (vptr b (i * s + o) ∷ []) refl $ fjoin ! $
     nothing ! $ nothing ! $ fjoin ! $ nothing ! $ fjoin ! $ keep ! (2 ∷ 0 ∷ 1 ∷ []) $ done !))))))

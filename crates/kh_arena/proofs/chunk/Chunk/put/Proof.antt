@@ -22,7 +22,7 @@ use types.Run.{init, stop, fld, load, size_lit, unit_lit, of_opd, bin, assigns_l
 use types.ByLocal.{alloc_all, pass_all, free_all, look_at, get, through, sets, env}
 use Rattle.std.specs.Prelude.{Some}
 use Rattle.std.proofs.mem.Param.{El, R, el_x, elτ, lawful, one}
-use Rattle.std.proofs.mem.Facts.{says_two}
+use Rattle.std.proofs.mem.Facts.{says_three}
 use Rattle.std.proofs.ptr.Rows.{times_below, one_below}
 use Rattle.std.proofs.alloc.Calls.{Al}
 use Rattle.std.proofs.alloc.Shapes.{after}
@@ -82,6 +82,6 @@ put_spec 𝓤 𝓛 𝓜 𝓡 wired X A LX LA g d dd met md =
     exec ! C Λ En (after 1 fn.body) (at_ret En Post) $ sets ! (of_opd ! (unit_lit !)) refl (tt, tt) $
     move ! (0 ∷ 7 ∷ 1 ∷ []) $ use3 𝓛 (‵ (all_of E Z new b o)) (item_in E 𝓛 b c.places i o li x v) $
     chunk_closes E Z ! tt new b o rb ro at fl fit $ returns ! (look_at ! 0 refl) $ free_all ! refl $
-    suffices ! _ (ends_at 𝓛 T hs c₀ z vunit tt (new, (tt, (tt, tt))) (tt, (tt, (tt, tt)))) $ says_two ! (refl, refl) $
+    suffices ! _ (ends_at 𝓛 T hs c₀ z vunit tt (new, (tt, (tt, tt))) (tt, (tt, (tt, tt)))) $ says_three ! (refl, refl, refl) $
     move ! (3 ∷ 0 ∷ 1 ∷ []) $ fjoin3 ! $ nothing ! $ nothing ! $ fjoin ! $ nothing ! $ fjoin ! $ move ! (1 ∷ 0 ∷ []) $ fjoin ! $
     move ! (1 ∷ 2 ∷ []) $ join ! $ feq_i ! (List Val) (vunit ∷ []) (vunit ∷ []) refl $ keep ! (1 ∷ 2 ∷ 0 ∷ []) $ done !))))
