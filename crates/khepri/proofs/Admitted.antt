@@ -10,7 +10,7 @@ use Rattle.kh_read.specs.Form.{is_plain_name, is_plain_path, IsForm}
 use Rattle.kh_read.specs.Reading.{Cut, Fault, form_at}
 use Rattle.std.proofs.lemmas.Bool.{and_parts}
 use Rattle.kh_read.proofs.{form_read, plain_names_are_names, bind_ok, ok_is}
-use Rattle.khepri.specs.Command.{is_atom, is_atom_path, is_command}
+use Rattle.kh_store.specs.Command.{is_atom, is_atom_path, is_command}
 use Rattle.khepri.specs.Script.{behind_form, line_at}
 
 plain_name_is_atom : (n : Name) → is_plain_name n ≡ true → is_atom n ≡ true

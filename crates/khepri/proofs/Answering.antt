@@ -6,11 +6,11 @@ use Rattle.kh_io.specs.Told.{Kept, Extends, IsFrontOf}
 use Rattle.kh_io.specs.Disk.{LeavesOnly}
 use Rattle.kh_io.proofs.{both, weakened, told_map, told_both}
 use Rattle.kh_read.specs.declared.form.Form.{Form}
-use Rattle.khepri.specs.State.{State, store_after}
-use Rattle.khepri.specs.Recovery.{Recovered, Recovers}
-use Rattle.khepri.specs.Store.{Opened, state_of, Stands, Executing}
+use Rattle.kh_store.specs.State.{State, store_after}
+use Rattle.kh_store.specs.Recovery.{Recovered, Recovers}
+use Rattle.kh_store.specs.Store.{Opened, state_of, Stands, Executing}
 use Rattle.khepri.specs.Session.{Untouched, Answering}
-use Rattle.khepri.proofs.Stands.{stands_recovers}
+use Rattle.kh_store.proofs.{stands_recovers}
 
 -- nothing was given yet
 pub none_given : (old new : Option (List ℕ)) (piece : List ℕ) → Kept old new → Extends old new (λ more. IsFrontOf more piece)

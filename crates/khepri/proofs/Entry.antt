@@ -11,20 +11,18 @@ use Rattle.kh_io.proofs.{both, weakened, told_map, told_both, kept_both, extends
 use Rattle.kh_log.specs.Records.{Content}
 use Rattle.kh_log.proofs.{content_of-short}
 use Rattle.kh_read.specs.declared.form.Form.{Form}
-use Rattle.khepri.specs.State.{State, empty, state_after, log_after, text_of}
-use Rattle.khepri.specs.Recovery.{Recovery, Recovered, Damaged, ends, ReplaysUnless, Recovers}
-use Rattle.khepri.specs.Store.{FilesTold, IsShort, StaysShort, Begun, InTurn, MaybeLogs, Opening, ReadsAsBefore}
-use Rattle.khepri.specs.Damage.{FailBefore, FailInside}
-use Rattle.khepri.specs.Opening.{OpenedBy}
+use Rattle.kh_store.specs.State.{State, empty, state_after, log_after, text_of}
+use Rattle.kh_store.specs.Recovery.{Recovery, Recovered, Damaged, ends, ReplaysUnless, Recovers}
+use Rattle.kh_store.specs.Store.{FilesTold, IsShort, StaysShort, Begun, InTurn, MaybeLogs, Opening, ReadsAsBefore}
+use Rattle.kh_store.specs.Damage.{FailBefore}
+use Rattle.khepri.specs.Output.{FailInside}
+use Rattle.kh_store.specs.Opening.{OpenedBy}
 use Rattle.khepri.specs.Serving.{OneBehind}
 use Rattle.khepri.specs.Session.{Untouched, KeepsAnswered}
 use Rattle.khepri.specs.Run.{AtEntry, Answered, Never, AsOpened, Ran, Ends, damage_line, Runs, FindsDamage}
-use Rattle.khepri.proofs.Recovery.{recovery_one}
+use Rattle.kh_store.proofs.{recovery_one, some_of, told_back, of_told, files_there, opened_takes_nothing, all_left}
+use Rattle.khepri.proofs.Calls.{inside_later}
 use Rattle.khepri.proofs.Scripts.{script_exists}
-use Rattle.khepri.proofs.Stands.{some_of}
-use Rattle.khepri.proofs.Open.{told_back, of_told, files_there}
-use Rattle.khepri.proofs.Calls.{inside_later, opened_takes_nothing}
-use Rattle.khepri.proofs.LogAlone.{all_left}
 use Rattle.khepri.proofs.Lines.{none_behind}
 
 -- ---- files that are told

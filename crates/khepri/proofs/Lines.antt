@@ -11,9 +11,9 @@ use Rattle.kh_read.specs.declared.form.Form.{Form}
 use Rattle.kh_read.specs.Reading.{Cut, Fault}
 use Rattle.khepri.specs.declared.session.Stop.{Stop}
 use Rattle.khepri.specs.declared.session.Stop.TheVariants as stop
-use Rattle.khepri.specs.State.{State, store_logs, store_reply, store_after, log_with, state_after, log_after, text_of}
-use Rattle.khepri.specs.Store.{MaybeLogs}
-use Rattle.khepri.specs.Recovery.{Recovered, Recovers}
+use Rattle.kh_store.specs.State.{State, store_logs, store_reply, store_after, log_with, state_after, log_after, text_of}
+use Rattle.kh_store.specs.Store.{MaybeLogs}
+use Rattle.kh_store.specs.Recovery.{Recovered, Recovers}
 use Rattle.khepri.specs.Output.{GivesAll}
 use Rattle.khepri.specs.Script.{line_at, all_read, Script, ends, cut}
 use Rattle.khepri.specs.Session.{Answering}

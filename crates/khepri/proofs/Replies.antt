@@ -8,8 +8,8 @@ use Rattle.kh_io.specs.Told.{Told}
 use Rattle.kh_io.proofs.{told_both}
 use Rattle.kh_text_defs.specs.Shown.{shown_line}
 use Rattle.kh_read.specs.declared.form.Form.{Form}
-use Rattle.khepri.specs.State.{State, store_reply, store_after, log_with, state_after, log_after, text_of}
-use Rattle.khepri.specs.Recovery.{Recovered, Recovers}
+use Rattle.kh_store.specs.State.{State, store_reply, store_after, log_with, state_after, log_after, text_of}
+use Rattle.kh_store.specs.Recovery.{Recovered, Recovers}
 use Rattle.khepri.specs.Session.{Answering, HasPrefix, KeepsAnswered}
 
 pub state_after-append : (forms others : List Form) (s : State) → state_after (forms ++ others) s ≡ state_after others (state_after forms s)

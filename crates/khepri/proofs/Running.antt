@@ -12,9 +12,9 @@ use Rattle.kh_read.specs.declared.form.Form.{Form}
 use Rattle.khepri.specs.declared.session.Stop.{Stop}
 use Rattle.khepri.specs.declared.session.Stop.TheVariants as stop
 use Rattle.khepri.specs.declared.input.Piece.TheVariants as piece
-use Rattle.khepri.specs.State.{State, store_logs, state_after, log_after, text_of}
-use Rattle.khepri.specs.Store.{MaybeLogs}
-use Rattle.khepri.specs.Recovery.{Recovered, Recovers}
+use Rattle.kh_store.specs.State.{State, store_logs, state_after, log_after, text_of}
+use Rattle.kh_store.specs.Store.{MaybeLogs}
+use Rattle.kh_store.specs.Recovery.{Recovered, Recovers}
 use Rattle.khepri.specs.Script.{Ending, AtEnd, AtFault, Unfinished, Script, Reads, EndsReading, BeginsReading, script_limit, WholeScript, ends}
 use Rattle.khepri.specs.Session.{Untouched, KeepsAnswered}
 use Rattle.khepri.specs.Serving.{Span, Logs, OneBehind, KeepsPrefix, Served, ServedToFault, ServedPart, ServedToDoubt, ServesTo, ServeStops}

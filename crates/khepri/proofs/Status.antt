@@ -6,8 +6,8 @@ use Rattle.kh_io.specs.Told.{Rose}
 use Rattle.kh_io.proofs.{told_map}
 use Rattle.khepri.specs.declared.session.Stop.{Stop}
 use Rattle.khepri.specs.declared.session.Stop.TheVariants as stop
-use Rattle.khepri.specs.Recovery.{Recovery, Recovered, Damaged, Recovers}
-use Rattle.khepri.specs.Store.{FilesTold}
+use Rattle.kh_store.specs.Recovery.{Recovery, Recovered, Damaged, Recovers}
+use Rattle.kh_store.specs.Store.{FilesTold}
 use Rattle.khepri.specs.Serving.{Span}
 use Rattle.khepri.specs.Run.{stop_status, ending_status, IsCutOff, Runs, Stood, TellsEnding}
 use Rattle.khepri.proofs.Unique.{script_unique}

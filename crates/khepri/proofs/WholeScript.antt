@@ -4,8 +4,8 @@ use Rattle.std.proofs.lemmas.List.{append-nil, drop_all}
 use Rattle.kh_text_defs.specs.Shown.{shown_line}
 use Rattle.kh_read.specs.declared.form.Form.{Form}
 use Rattle.kh_read.specs.Reading.{Cut, Fault}
-use Rattle.khepri.specs.Tree.{Node, root}
-use Rattle.khepri.specs.Machine.{reply_to, after}
+use Rattle.kh_store.specs.Tree.{Node, root}
+use Rattle.kh_store.specs.Machine.{reply_to, after}
 use Rattle.khepri.specs.Script.{Ending, AtEnd, AtFault, line_at, Script, ends, faulty, cut, Reads}
 use Rattle.khepri.specs.Plain.{tree_after, tree_text, TextAndStatus}
 use Rattle.khepri.proofs.Scripts.{reads_starts, reads_on}

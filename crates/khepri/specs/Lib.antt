@@ -1,11 +1,3 @@
-pub mod Tree
-pub mod Machine
-pub mod Command
-pub mod State
-pub mod Recovery
-pub mod Damage
-pub mod Store
-pub mod Opening
 pub mod Output
 pub mod Script
 pub mod Session

@@ -2,8 +2,8 @@
 use Rattle.std.specs.Prelude.{◌≡◌, ℕ, true, List, [], ◌∷◌, ◌++◌}
 use Rattle.kh_text_defs.specs.Shown.{shown_line}
 use Rattle.kh_read.specs.declared.form.Form.{Form}
-use Rattle.khepri.specs.Tree.{Node, root}
-use Rattle.khepri.specs.Machine.{reply_to, after}
+use Rattle.kh_store.specs.Tree.{Node, root}
+use Rattle.kh_store.specs.Machine.{reply_to, after}
 use Rattle.khepri.specs.Script.{Ending, Script}
 use Rattle.khepri.specs.Run.{ending_status}
 

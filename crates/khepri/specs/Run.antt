@@ -10,11 +10,12 @@ use Rattle.kh_text_defs.specs.Shown.{shown_line}
 use Rattle.kh_read.specs.declared.form.Form.{Form}
 use Rattle.khepri.specs.declared.session.Stop.{Stop}
 use Rattle.khepri.specs.declared.session.Stop.TheVariants as stop
-use Rattle.khepri.specs.Machine.{word}
-use Rattle.khepri.specs.State.{State, store_logs, state_after, log_after, text_of}
-use Rattle.khepri.specs.Store.{StaysShort, Begun, InTurn, MaybeLogs}
-use Rattle.khepri.specs.Recovery.{Recovery, Recovered, Damaged, Recovers}
-use Rattle.khepri.specs.Damage.{FailBefore, FailInside}
+use Rattle.kh_store.specs.Machine.{word}
+use Rattle.kh_store.specs.State.{State, store_logs, state_after, log_after, text_of}
+use Rattle.kh_store.specs.Store.{StaysShort, Begun, InTurn, MaybeLogs}
+use Rattle.kh_store.specs.Recovery.{Recovery, Recovered, Damaged, Recovers}
+use Rattle.kh_store.specs.Damage.{FailBefore}
+use Rattle.khepri.specs.Output.{FailInside}
 use Rattle.khepri.specs.Script.{Ending, AtEnd, AtFault, Unfinished, WholeScript, FrontScript}
 use Rattle.khepri.specs.Session.{KeepsAnswered}
 use Rattle.khepri.specs.Serving.{Span, OneBehind}

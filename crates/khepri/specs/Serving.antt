@@ -6,8 +6,8 @@ use Rattle.kh_io.specs.Disk.{LeavesOnly}
 use Rattle.kh_read.specs.declared.form.Form.{Form}
 use Rattle.khepri.specs.declared.session.Stop.{Stop}
 use Rattle.khepri.specs.declared.session.Stop.TheVariants as stop
-use Rattle.khepri.specs.State.{State, store_logs, state_after, log_after, text_of}
-use Rattle.khepri.specs.Store.{MaybeLogs}
+use Rattle.kh_store.specs.State.{State, store_logs, state_after, log_after, text_of}
+use Rattle.kh_store.specs.Store.{MaybeLogs}
 use Rattle.khepri.specs.Script.{AtFault, all_read, Script, Reads, EndsReading, BeginsReading}
 use Rattle.khepri.specs.Session.{HasPrefix}
 

@@ -3,8 +3,8 @@ use Rattle.std.specs.Prelude.{◌≡◌, ℕ, ◌+◌, ◌-◌, ◌<◌, ◌≤�
 use Rattle.kh_io.specs.declared.files.Files.{Files}
 use Rattle.kh_io.specs.Disk.{AreImages}
 use Rattle.kh_read.specs.declared.form.Form.{Form}
-use Rattle.khepri.specs.State.{State, store_after, state_after, text_of}
-use Rattle.khepri.specs.Recovery.{Recovered, Recovers}
+use Rattle.kh_store.specs.State.{State, store_after, state_after, text_of}
+use Rattle.kh_store.specs.Recovery.{Recovered, Recovers}
 
 -- What a crash may leave while the files aren't touched: what it might have left before, with a stamp from the one at entry to
 -- the one at exit.

@@ -5,13 +5,13 @@ ghost use Rattle.kh_io.specs.Disk.{FilesStay, LeavesOnly};
 ghost use Rattle.kh_log.specs.Calls.{Grows};
 ghost use Rattle.khepri.specs.Run.{damage_tree, damage_line};
 ghost use Rattle.khepri.specs.Session.{Untouched};
-ghost use Rattle.khepri.specs.Damage.{FailInside};
+ghost use Rattle.khepri.specs.Output.{FailInside};
 
-use crate::machine::{triple, word};
 use crate::output::give_all;
 use crate::session::Stop;
 use kh_io::Host;
 use kh_print::print_line;
+use kh_store::{triple, word};
 use kh_term::{NoMemory, Term, int};
 use std::alloc::Global;
 

@@ -1,25 +1,18 @@
 //! The store: a script of commands in, a reply for each out.
 #![tactic(auto)]
 
-mod command;
 mod damage;
 mod input;
-mod laws;
 mod line;
-mod machine;
-mod opening;
 mod output;
 #[cfg(test)]
 mod plain;
-mod replay;
 mod run;
 mod session;
 mod sound;
-mod store;
 #[cfg(test)]
 mod tests;
 mod top;
-mod tree;
 
 use kh_io::RealHost;
 use std::process::ExitCode;

@@ -3,8 +3,7 @@ ghost use Rattle.std.specs.Prelude.{◌≡◌, ◌≤◌, OnOk, OnErr};
 ghost use Rattle.kh_io.specs.Told.{Kept, Extends, IsFrontOf, Rose};
 ghost use Rattle.kh_io.specs.Disk.{FilesStay, LeavesOnly};
 ghost use Rattle.kh_log.specs.Calls.{Grows};
-ghost use Rattle.khepri.specs.Output.{GivesAll};
-ghost use Rattle.khepri.specs.Damage.{FailInside};
+ghost use Rattle.khepri.specs.Output.{GivesAll, FailInside};
 ghost use Rattle.khepri.specs.Session.{Untouched};
 
 use kh_io::{Failed, Host};

@@ -1,13 +1,13 @@
 //! A plain session, which the tests compare with the program.
 ghost use Rattle.std.specs.Prelude.{◌≡◌, ◌++◌, IfOk, OnOk};
 ghost use Rattle.kh_text_defs.specs.Shown.{shown_line};
-ghost use Rattle.khepri.specs.Machine.{reply_to, after};
+ghost use Rattle.kh_store.specs.Machine.{reply_to, after};
 ghost use Rattle.khepri.specs.Plain.{TextAndStatus};
 
 use crate::line::{Line, read_line};
-use crate::tree::Tree;
 use kh_print::print_line;
 use kh_read::Form;
+use kh_store::Tree;
 use kh_term::NoMemory;
 use std::alloc::Global;
 

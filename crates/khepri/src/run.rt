@@ -2,16 +2,16 @@
 ghost use Rattle.std.specs.Prelude.{◌≡◌, ◌≢◌, ◌<◌, ◌⊎◌, Err, length, OnOk};
 ghost use Rattle.kh_io.specs.Told.{Told, Extends, Rose};
 ghost use Rattle.kh_log.specs.Calls.{Grows};
-ghost use Rattle.khepri.specs.Recovery.{Recovery, Recovers};
-ghost use Rattle.khepri.specs.Store.{FilesTold, state_of, Stands, AreSafe, Begun, InTurn, GainsRecords, WritesLogAlone};
-ghost use Rattle.khepri.specs.Opening.{BeginByOpening};
+ghost use Rattle.kh_store.specs.Recovery.{Recovery, Recovers};
+ghost use Rattle.kh_store.specs.Store.{FilesTold, state_of, Stands, AreSafe, Begun, InTurn, GainsRecords, WritesLogAlone};
+ghost use Rattle.kh_store.specs.Opening.{BeginByOpening};
 ghost use Rattle.khepri.specs.Run.{stop_status, run_status, Ends, Runs, FindsDamage, Never, AsOpened};
 
 use crate::damage::report;
 use crate::input::{Piece, take_more};
 use crate::session::{Stop, serve};
-use crate::store::{OpenError, Store};
 use kh_io::Host;
+use kh_store::{OpenError, Store};
 use std::alloc::Global;
 
 /// How many bytes are asked for at a time.

@@ -4,19 +4,19 @@ ghost use Rattle.kh_io.specs.Told.{Told, Kept, Extends, IsFrontOf, Rose};
 ghost use Rattle.kh_io.specs.Disk.{LeavesOnly};
 ghost use Rattle.kh_text_defs.specs.Shown.{shown_line};
 ghost use Rattle.kh_log.specs.Calls.{Grows};
-ghost use Rattle.khepri.specs.Command.{is_command};
+ghost use Rattle.kh_store.specs.Command.{is_command};
 ghost use Rattle.khepri.specs.Output.{GivesAll};
-ghost use Rattle.khepri.specs.State.{store_logs, log_with, store_reply, store_after};
-ghost use Rattle.khepri.specs.Store.{state_of, Stands, GainsRecords, MaybeLogs, WritesLogAlone};
+ghost use Rattle.kh_store.specs.State.{store_logs, log_with, store_reply, store_after};
+ghost use Rattle.kh_store.specs.Store.{state_of, Stands, GainsRecords, MaybeLogs, WritesLogAlone};
 ghost use Rattle.khepri.specs.Session.{Answering};
 ghost use Rattle.khepri.specs.Serving.{AnswerStops, ServesTo, ServeStops};
 
 use crate::line::{Line, read_line};
 use crate::output::give_all;
-use crate::store::{Store, StoreError};
 use kh_io::Host;
 use kh_print::print_line;
 use kh_read::Form;
+use kh_store::{Store, StoreError};
 use std::alloc::Global;
 
 /// Why a session ended before the end of its input.

@@ -1,8 +1,8 @@
 //! The top call over a host that never fails.
 ghost use Rattle.std.specs.Prelude.{◌≡◌, ◌≢◌, ◌↔◌, false, IsTrue};
 ghost use Rattle.khepri.specs.Words.{are_right};
-ghost use Rattle.khepri.specs.Recovery.{Recovery, Recovers};
-ghost use Rattle.khepri.specs.Store.{FilesTold};
+ghost use Rattle.kh_store.specs.Recovery.{Recovery, Recovers};
+ghost use Rattle.kh_store.specs.Store.{FilesTold};
 ghost use Rattle.khepri.specs.Run.{TellsEnding};
 ghost use Rattle.khepri.specs.Sound.{IsZero};
 

@@ -2,9 +2,9 @@
 ghost use Rattle.std.specs.Prelude.{◌≡◌, ◌≢◌, ◌↔◌, ◌⊎◌, false, IsTrue};
 ghost use Rattle.kh_io.specs.Told.{Told, Extends, Rose};
 ghost use Rattle.khepri.specs.Words.{are_right};
-ghost use Rattle.khepri.specs.Recovery.{Recovery, Recovers};
-ghost use Rattle.khepri.specs.Store.{FilesTold, AreSafe, Begun, InTurn, GainsRecords, WritesLogAlone};
-ghost use Rattle.khepri.specs.Opening.{BeginByOpening};
+ghost use Rattle.kh_store.specs.Recovery.{Recovery, Recovers};
+ghost use Rattle.kh_store.specs.Store.{FilesTold, AreSafe, Begun, InTurn, GainsRecords, WritesLogAlone};
+ghost use Rattle.kh_store.specs.Opening.{BeginByOpening};
 ghost use Rattle.khepri.specs.Run.{Runs, FindsDamage, Stood, OneScript, TellsEnding};
 
 use crate::run::run;

@@ -1,8 +1,7 @@
 //! A full store: one of as many nodes, and one of as long a log, as there may be.
 use super::{files_of, run};
-use crate::command::pack_put;
-use crate::replay::has_room;
 use kh_io::{Files, MemoryHost};
+use kh_store::pack_put;
 use kh_term::{Atom, Name, Path};
 use std::alloc::Global;
 use std::process::Abort;
@@ -115,22 +114,5 @@ fn a_log_has_at_most_134_217_728_bytes(rt: HostRuntime) -> Result<(), Fail> {
     let files = leaves(&rt, alloc, files_of(alloc, &log)?, 1 << 28, script, output)?;
     assert_eq!(rt; files.l0.as_slice().len(), 134_217_728);
     leaves(&rt, alloc, files, 1 << 28, b"{get,[a]}.\n", b"{ok,1}.\n")?;
-    Ok(())
-}
-
-#[test]
-fn a_log_has_room_up_to_its_limit(rt: HostRuntime) -> Result<(), Fail> {
-    let rows: [(u64, usize, bool); 7] = [
-        (0, 0, true),
-        (0, 134_217_722, true),
-        (0, 134_217_723, false),
-        (134_217_695, 27, true),
-        (134_217_695, 28, false),
-        (134_217_728, 0, false),
-        (u64::MAX, usize::MAX, false),
-    ];
-    for (span, length, has) in rows {
-        assert_eq!(rt; has_room(span, length), has);
-    }
     Ok(())
 }

@@ -1,7 +1,8 @@
 use Rattle.std.proofs.Common.{◌∙◌, arith, rules}
 use Rattle.kh_io.proofs.{kept_both, stays_both}
 use Rattle.khepri.proofs.Giving.{giving_goes_on, untouched_goes_on}
-use Rattle.khepri.proofs.Calls.{on_err, more_given, give_fails}
+use Rattle.kh_store.proofs.{on_err}
+use Rattle.khepri.proofs.Calls.{more_given, give_fails}
 use Rattle.khepri.proofs.output.give_all.Goals as goal
 
 pub loop-rest-preserved : goal.loop-rest-preserved

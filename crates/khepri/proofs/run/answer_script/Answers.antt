@@ -3,11 +3,10 @@ use Rattle.std.specs.Prelude.{Result}
 use Rattle.kh_io.specs.Told.{Rose}
 use Rattle.khepri.specs.declared.session.Stop.{Stop}
 use Rattle.khepri.specs.declared.session.Stop.TheVariants as stop
-use Rattle.khepri.specs.Store.{state_of}
-use Rattle.khepri.proofs.Stands.{stands_recovers, stands_stay}
-use Rattle.khepri.proofs.LogAlone.{untouched, none_touched, written_then, took_and_served, gains_nothing, gains_kept, gains_then, gains_served}
+use Rattle.kh_store.specs.Store.{state_of}
+use Rattle.kh_store.proofs.{stands_recovers, stands_stay, untouched, written_then, gains_nothing, gains_kept, gains_then, grows_none, grows_both}
+use Rattle.khepri.proofs.Pieces.{none_touched, took_and_served, gains_served}
 use Rattle.khepri.proofs.Running.{view_of, starts, took_piece, took_shorter, served_on, served_stops, take_stops, all_came, finished, finish_stops, take_rose, take_reason, serve_rose}
-use Rattle.khepri.proofs.Calls.{grows_none, grows_both}
 use Rattle.khepri.proofs.run.answer_script.Goals as goal
 
 abbrev ended_by : Stop → Result (Unit {0}) Stop

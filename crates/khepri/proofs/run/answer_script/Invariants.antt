@@ -2,7 +2,7 @@ use Rattle.std.proofs.Common.{◌≡◌, ◌-◌, length}
 use Rattle.khepri.specs.Script.{script_limit}
 use Rattle.kh_io.specs.Told.{Told}
 use Rattle.kh_log.specs.Calls.{Grows}
-use Rattle.khepri.specs.Store.{state_of, Stands, GainsRecords, WritesLogAlone}
+use Rattle.kh_store.specs.Store.{state_of, Stands, GainsRecords, WritesLogAlone}
 use Rattle.khepri.proofs.Running.{IsRunning, view_of}
 use Rattle.khepri.proofs.run.answer_script.Given as goal
 

@@ -4,14 +4,13 @@ use Rattle.kh_io.specs.Told.{Extends, IsFrontOf, Rose}
 use Rattle.kh_io.proofs.{told_map}
 use Rattle.khepri.specs.declared.session.Stop.{Stop}
 use Rattle.khepri.specs.declared.session.Stop.TheVariants as stop
-use Rattle.khepri.specs.declared.store.OpenError.{OpenError}
-use Rattle.khepri.specs.declared.store.OpenError.TheVariants as open_error
+use Rattle.kh_store.specs.declared.store.OpenError.{OpenError}
+use Rattle.kh_store.specs.declared.store.OpenError.TheVariants as open_error
 use Rattle.khepri.specs.Run.{stop_status, damage_line}
-use Rattle.khepri.specs.Store.{Opened, state_of}
+use Rattle.kh_store.specs.Store.{Opened, state_of}
 use Rattle.khepri.proofs.Entry.{runs_opened, runs_damaged, runs_faulted, runs_out, finds_damage}
-use Rattle.khepri.proofs.LogAlone.{none_touched, written_then, written_tells, gains_kept, keeps_then}
-use Rattle.khepri.proofs.Safe.{all_safe, log_safe}
-use Rattle.khepri.proofs.Opened.{opened_then}
+use Rattle.kh_store.proofs.{written_then, written_tells, gains_kept, keeps_then, all_safe, log_safe, opened_then}
+use Rattle.khepri.proofs.Pieces.{none_touched}
 use Rattle.khepri.proofs.run.run.Goals as goal
 
 abbrev stopped : Stop → Result (Unit {0}) Stop

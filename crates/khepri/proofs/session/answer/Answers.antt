@@ -1,7 +1,8 @@
 use Rattle.std.proofs.Common.{◌∙◌, ap, arith}
 use Rattle.kh_text_defs.specs.Shown.{shown_line}
 use Rattle.khepri.proofs.Answering.{none_given, front_given, answered}
-use Rattle.khepri.proofs.LogAlone.{written_then, none_touched, gains_then, gains_kept}
+use Rattle.kh_store.proofs.{written_then, gains_then, gains_kept}
+use Rattle.khepri.proofs.Pieces.{none_touched}
 use Rattle.khepri.proofs.session.answer.Goals as goal
 
 pub returns-in-Err-DiskFault-clause-front : goal.returns-in-Err-DiskFault-clause-front

@@ -1,12 +1,10 @@
 use Rattle.std.proofs.Common.{◌≡◌, ◌∙◌, length, drop, refl, arith}
 use Rattle.std.proofs.lemmas.List.{drop_all}
 use Rattle.kh_io.proofs.{kept_same, kept_both}
-use Rattle.khepri.specs.Store.{state_of}
-use Rattle.khepri.proofs.Stands.{stands_recovers}
-use Rattle.khepri.proofs.LogAlone.{untouched, written_then, gains_nothing, gains_then}
+use Rattle.kh_store.specs.Store.{state_of}
+use Rattle.kh_store.proofs.{stands_recovers, untouched, written_then, gains_nothing, gains_then, grows_none, grows_both}
 use Rattle.khepri.proofs.Admitted.{line_is_command}
 use Rattle.khepri.proofs.Lines.{counts, nothing_served, one_line, no_reply, to_fault, to_cut, to_front, some_left, rests_at_end, rests_cut}
-use Rattle.khepri.proofs.Calls.{grows_none, grows_both}
 use Rattle.khepri.proofs.session.serve.Goals as goal
 
 pub lines-init : goal.lines-init

@@ -1,7 +1,7 @@
 use Rattle.std.proofs.Common.{◌≡◌, ◌-◌, ◌≤◌, length, drop}
 use Rattle.kh_io.specs.Told.{Told, Kept}
 use Rattle.kh_log.specs.Calls.{Grows}
-use Rattle.khepri.specs.Store.{state_of, Stands, GainsRecords, WritesLogAlone}
+use Rattle.kh_store.specs.Store.{state_of, Stands, GainsRecords, WritesLogAlone}
 use Rattle.khepri.proofs.Lines.{SoFar, span_to}
 use Rattle.khepri.proofs.session.serve.Given as goal
 

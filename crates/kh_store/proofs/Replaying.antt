@@ -1,0 +1,223 @@
+-- The replay of the records of a log.
+use Rattle.std.proofs.Common.{◌≡◌, ◌≤◌, ◌+◌, ℕ, suc, ℤ, false, nat_le, IsTrue, List, [], ◌∷◌, ◌++◌, length, take, drop, Option, Some, None, refl, ap, sym, subst, ◌∙◌, arith}
+use Rattle.std.specs.Prelude.{slice_get, get_or, IfSome, All}
+use Rattle.std.proofs.lemmas.Bool.{and_parts, leb-true}
+use Rattle.std.proofs.lemmas.List.{drop_more, drop_all, take_all}
+use Rattle.std.proofs.lemmas.List.Elements.{All-nil, All-append}
+use Rattle.std.proofs.lemmas.Option.{slice_get_within, slice_get-get_or, get_or_from_slice_get}
+use Rattle.kh_term.specs.declared.name.Name.{Name}
+use Rattle.kh_read.specs.declared.form.Form.TheVariants as form
+use Rattle.kh_io.specs.Told.{Told, Kept, Extends}
+use Rattle.kh_io.specs.Call.{Call}
+use Rattle.kh_io.proofs.{told_map, told_both, told_same, extends_both}
+use Rattle.kh_log.specs.declared.error.LogError.{LogError}
+use Rattle.kh_log.specs.declared.error.LogError.TheVariants as log_error
+use Rattle.kh_store.specs.declared.store.OpenError.TheVariants as open_error
+use Rattle.kh_log.specs.Records.{length_of, records_of, span as records_span}
+use Rattle.kh_log.specs.Log.{Place, Holds}
+use Rattle.kh_log.specs.Calls.{AreMade, FailAmong, record_reads, records_reads}
+use Rattle.kh_log.proofs.{no_calls, made_both, fail_later, fail_more, records_front, no_earlier, record_length}
+use Rattle.kh_store.specs.Tree.{Node}
+use Rattle.kh_store.specs.Machine.{is_logged, after}
+use Rattle.kh_store.specs.Command.{put_bytes, IsPut}
+use Rattle.kh_store.specs.State.{State, empty, log_limit}
+use Rattle.kh_store.specs.Recovery.{Recovery, Recovered, Damaged, IsNoRecord, Replays, ends, applies, refuses}
+use Rattle.kh_store.specs.Damage.{FailAtRecord}
+use Rattle.kh_store.specs.Opening.{IsRecord, ReadsLog, opening_error}
+use Rattle.kh_store.proofs.Puts.{put_is_one}
+use Rattle.kh_store.proofs.Recovery.{replays_one, replays_some}
+use Rattle.kh_store.proofs.Calls.{made_reads, records_read_log}
+use Rattle.kh_store.proofs.Refused.{damaged_record, damage_behind}
+
+-- a put that the tree has no room for is no record
+pub unlogged : (bytes : List ℕ) (path : List Name) (number : ℤ) (nodes : List Node) (span : ℕ) → IsPut bytes path number
+    → is_logged (form.Put path number) nodes ≡ false → IsNoRecord bytes (record { nodes = nodes; span = span })
+unlogged bytes path number nodes span is not_logged other last put logs =
+    let one = put_is_one bytes other path last number put is in
+    let there : IsTrue (is_logged (form.Put path number) nodes) =
+    subst (λ (p : List Name × ℤ). IsTrue (is_logged (form.Put p.0 p.1) nodes)) (λ i. (one.0 i, one.1 i))
+    (and_parts (nat_le (span + 6 + length (put_bytes other last)) log_limit) (is_logged (form.Put other last) nodes) logs).1 in
+    cc
+
+-- from the root alone so many records of a log were applied, and led to this state
+pub record Replayed (s : State) (count : ℕ) (bytes : List ℕ) : Type 0 where
+  pub from : (end : Recovery) → Replays s (drop count (records_of bytes)) end → Replays empty (records_of bytes) end
+
+-- before the first record
+pub replayed_none : (bytes : List ℕ) → Replayed empty 0 bytes
+replayed_none bytes = record { from = λ end replays. replays }
+
+rest_of : (rs : List (List ℕ)) (k : ℕ) (r : List ℕ) → slice_get rs k ≡ Some r → drop k rs ≡ r ∷ drop (k + 1) rs
+rest_of rs k r got =
+    drop_more rs k r (slice_get_within rs k r got) ∙ ap (λ (x : List ℕ). x ∷ drop (k + 1) rs) (get_or_from_slice_get rs k r r got)
+
+-- one more record is applied
+pub replayed_more : (old new : State) (count : ℕ) (bytes record_bytes : List ℕ) → Replayed old count bytes → slice_get (records_of bytes) count ≡ Some record_bytes
+    → IsRecord record_bytes old new → Replayed new (count + 1) bytes
+replayed_more old new count bytes r replayed got is = record {
+  from = λ end replays. replayed.from end (subst (λ (l : List (List ℕ)). Replays old l end) (sym (rest_of (records_of bytes) count r got))
+      (applies old r is.path is.number (drop (count + 1) (records_of bytes)) end is.put is.logged (subst (λ (s : State). Replays s (drop (count + 1) (records_of bytes)) end) is.after replays)));
+}
+
+-- one that the store wouldn't have logged is damage
+pub replayed_refused : (s : State) (count : ℕ) (bytes record_bytes : List ℕ) → Replayed s count bytes → slice_get (records_of bytes) count ≡ Some record_bytes
+    → IsNoRecord record_bytes s → Replays empty (records_of bytes) (Damaged 1 (s.span + 1))
+replayed_refused s count bytes r replayed got none =
+    replayed.from (Damaged 1 (s.span + 1)) (subst (λ (l : List (List ℕ)). Replays s l (Damaged 1 (s.span + 1))) (sym (rest_of (records_of bytes) count r got))
+    (refuses s r (drop (count + 1) (records_of bytes)) none))
+
+-- all records were applied
+pub replayed_all : (nodes : List Node) (span : ℕ) (log : Place) (bytes : List ℕ) → Replayed (record { nodes = nodes; span = span }) log.read bytes → Holds log bytes
+    → log.read ≡ log.records → span ≡ log.next → Replays empty (records_of bytes) (Recovered (record { nodes = nodes; span = log.last }))
+replayed_all nodes span log bytes replayed holds all at =
+    let rs = records_of bytes in
+    let most : length rs ≤ log.read = omega (arith, all, holds.records) in
+    let last : span ≡ log.last = at ∙ holds.next ∙ ap records_span (take_all log.read rs most) ∙ sym holds.last in
+    subst (λ n. Replays empty rs (Recovered (record { nodes = nodes; span = n }))) last
+    (replayed.from (Recovered (record { nodes = nodes; span = span }))
+    (subst (λ (l : List (List ℕ)). Replays (record { nodes = nodes; span = span }) l (Recovered (record { nodes = nodes; span = span })))
+    (sym (drop_all log.read rs most)) (ends (record { nodes = nodes; span = span }))))
+
+-- a record that was applied is within the log
+pub record_within : (bytes : List ℕ) (old new : State) → IsRecord bytes old new → old.span + 6 + length bytes ≤ log_limit
+record_within bytes old new is =
+    let room = leb-true _ _ (and_parts (nat_le (old.span + 6 + length (put_bytes is.path is.number)) log_limit) (is_logged (form.Put is.path is.number) old.nodes) is.logged).0 in
+    omega (arith, room, ap length is.put.packed)
+
+-- two facts of one call
+pub told_also : (P Q : List ℕ → List ℕ → Type 0) (a b : Option (List ℕ)) → Told a b P → Told a b Q → Told a b (λ x y. P x y × Q x y)
+told_also P Q (Some x) (Some y) p q = (p, q)
+told_also P Q None (Some y) p q = absurd p
+told_also P Q (Some x) None p q = tt
+told_also P Q None None p q = tt
+
+told_holds : (a b : Option (List ℕ)) (P : List ℕ → Type 0) → Kept a b → IfSome a P → Told a b (λ was _. P was)
+told_holds (Some x) (Some y) P kept holds = holds
+told_holds None (Some y) P kept holds = absurd kept
+told_holds (Some x) None P kept holds = tt
+told_holds None None P kept holds = tt
+
+-- the same, of a file that is told
+abbrev pub ToldReplayed : (seen seen' : Option (List ℕ)) (s : State) (count : ℕ) → Type 0
+ToldReplayed seen seen' s count = Told seen seen' (λ was now. (now ≡ was) × Replayed s count was)
+
+pub told_none : (seen : Option (List ℕ)) (s : State) (count : ℕ) → s ≡ empty → count ≡ 0 → ToldReplayed seen seen s count
+told_none None s count is none = tt
+told_none (Some bytes) s count is none =
+    (refl, subst (λ (t : State). Replayed t count bytes) (sym is) (subst (λ k. Replayed empty k bytes) (sym none) (replayed_none bytes)))
+
+pub told_more : (a b c : Option (List ℕ)) (old new : State) (count next : ℕ) (r : List ℕ) → ToldReplayed a b old count → Kept b c
+    → Told b c (λ was _. slice_get (records_of was) count ≡ Some r) → IsRecord r old new → next ≡ count + 1 → ToldReplayed a c new next
+told_more a b c old new count next r first kept got is more =
+    told_both a b c first (told_also (λ was now. now ≡ was) (λ was _. slice_get (records_of was) count ≡ Some r) b c kept got) (λ x y z p q.
+    (q.0 ∙ p.0, subst (λ k. Replayed new k x) (sym more) (replayed_more old new count x r p.1 (subst (λ (l : List ℕ). slice_get (records_of l) count ≡ Some r) p.0 q.1) is)))
+
+pub told_refused : (a b c : Option (List ℕ)) (s : State) (count file offset : ℕ) (r : List ℕ) → ToldReplayed a b s count
+    → Told b c (λ was _. slice_get (records_of was) count ≡ Some r) → IsNoRecord r s → file ≡ 1 → offset ≡ s.span + 1
+    → Told a c (λ was _. Replays empty (records_of was) (Damaged file offset))
+told_refused a b c s count file offset r first got none one at =
+    told_both a b c first got (λ x y z p q.
+    subst (λ (d : ℕ × ℕ). Replays empty (records_of x) (Damaged d.0 d.1)) (λ i. (sym one i, sym at i))
+    (replayed_refused s count x r p.1 (subst (λ (l : List ℕ). slice_get (records_of l) count ≡ Some r) p.0 q) none))
+
+pub told_all : (a b c : Option (List ℕ)) (nodes : List Node) (span : ℕ) (log after : Place) → ToldReplayed a b (record { nodes = nodes; span = span }) log.read
+    → Kept b c → IfSome b (Holds log) → IfSome b (λ _. span ≡ log.next) → log.read ≡ log.records → after ≡ log
+    → Told a c (λ was _. Replays empty (records_of was) (Recovered (record { nodes = nodes; span = after.last })))
+told_all a b c nodes span log after first kept holds at all same =
+    told_both a b c first (told_also (λ was _. Holds log was) (λ _ _. span ≡ log.next) b c (told_holds b c (Holds log) kept holds) (told_holds b c (λ _. span ≡ log.next) kept at)) (λ x y z p q.
+    subst (λ (l : Place). Replays empty (records_of x) (Recovered (record { nodes = nodes; span = l.last }))) (sym same)
+    (replayed_all nodes span log x p.1 (subst (Holds log) p.0 q.0) all q.1))
+
+-- where the next gate is, before the first record and behind one more
+pub next_none : (seen : Option (List ℕ)) (log : Place) → IfSome seen (Holds log) → log.read ≡ 0 → IfSome seen (λ _. 0 ≡ log.next)
+next_none (Some bytes) log holds none = sym (holds.next ∙ ap (λ k. records_span (take k (records_of bytes))) none)
+next_none None log holds none = tt
+
+pub next_more : (a b : Option (List ℕ)) (span more next after : ℕ) → Kept a b → IfSome a (λ _. span ≡ next) → after ≡ next + more → IfSome b (λ _. span + more ≡ after)
+next_more (Some x) (Some y) span more next after kept at is = omega (arith, at, is)
+next_more None (Some y) span more next after kept at is = absurd kept
+next_more a None span more next after kept at is = tt
+
+-- ---- the calls
+
+-- so many records of a file were read
+abbrev pub RecordsRead : (seen seen' : Option (List ℕ)) (journal journal' : Option (List Call)) (count : ℕ) → Type 0
+RecordsRead seen seen' journal journal' count = Told seen seen' (λ was _. Extends journal journal' (AreMade (records_reads 1 (records_of was) count)))
+
+pub reads_none : (seen : Option (List ℕ)) (journal : Option (List Call)) (count : ℕ) → count ≡ 0 → RecordsRead seen seen journal journal count
+reads_none seen journal count none =
+    told_same _ seen (λ was. subst (λ n. Extends journal journal (AreMade (records_reads 1 (records_of was) n))) (sym none) (no_calls (AreMade []) journal refl))
+
+-- the reads of the next record
+next_reads : (log : Place) (was r : List ℕ) → log.file ≡ 1 → Holds log was → slice_get (records_of was) log.read ≡ Some r
+    → record_reads log.file log.next (length r) ≡ record_reads 1 (records_span (take log.read (records_of was))) (length (get_or (records_of was) log.read []))
+next_reads log was r one holds got =
+    let size : length r ≡ length (get_or (records_of was) log.read []) = ap length (sym (get_or_from_slice_get (records_of was) log.read r [] got)) in
+    λ i. record_reads (one i) (holds.next i) (size i)
+
+pub reads_more : (a b c : Option (List ℕ)) (j0 j1 j2 : Option (List Call)) (log : Place) (after : ℕ) (r : List ℕ) → Kept a b → RecordsRead a b j0 j1 log.read → IfSome b (Holds log) → Kept b c
+    → Told b c (λ was _. slice_get (records_of was) log.read ≡ Some r) → log.file ≡ 1 → after ≡ log.read + 1 → Extends j1 j2 (AreMade (record_reads log.file log.next (length r)))
+    → RecordsRead a c j0 j2 after
+reads_more a b c j0 j1 j2 log after r same read holds kept got one more later =
+    let Read = λ (was : List ℕ). Extends j0 j1 (AreMade (records_reads 1 (records_of was) log.read)) in
+    told_both a b c (told_also (λ was now. now ≡ was) (λ was _. Read was) a b same read)
+    (told_also (λ was _. slice_get (records_of was) log.read ≡ Some r) (λ was _. Holds log was) b c got (told_holds b c (Holds log) kept holds)) (λ x y z p q.
+    let rs = records_of x in
+    let list = next_reads log x r one (subst (Holds log) p.0 q.1) (subst (λ (l : List ℕ). slice_get (records_of l) log.read ≡ Some r) p.0 q.0) in
+    let count : suc log.read ≡ after = omega (arith, more) in
+    extends_both (AreMade (records_reads 1 rs log.read)) (AreMade (record_reads log.file log.next (length r))) (AreMade (records_reads 1 rs after)) j0 j1 j2 p.1 later (λ calls rest made next.
+    subst (λ n. AreMade (records_reads 1 rs n) (calls ++ rest)) count
+    (made_both (records_reads 1 rs log.read) (record_reads 1 (records_span (take log.read rs)) (length (get_or rs log.read []))) calls rest made (next ∙ list))))
+
+-- they are reads of the log alone
+pub reads_log : (a b : Option (List ℕ)) (j0 j1 : Option (List Call)) (count : ℕ) → RecordsRead a b j0 j1 count → Told a b (λ _ _. Extends j0 j1 (All ReadsLog))
+reads_log a b j0 j1 count read = told_map a b read (λ x y made. told_map j0 j1 made (λ i j p. (
+  p.0,
+  p.1,
+  made_reads (records_reads 1 (records_of x) count) p.0 (records_read_log (records_of x) count) p.2,
+)))
+
+-- and no call behind them
+pub read_nothing : (a b c : Option (List ℕ)) (j0 j1 j2 : Option (List Call)) (count : ℕ) → RecordsRead a b j0 j1 count → Kept b c → Extends j1 j2 (AreMade [])
+    → Told a c (λ _ _. Extends j0 j2 (All ReadsLog))
+read_nothing a b c j0 j1 j2 count read kept none = told_both a b c (reads_log a b j0 j1 count read) kept (λ x y z calls same.
+    extends_both (All ReadsLog) (AreMade []) (All ReadsLog) j0 j1 j2 calls none (λ made rest reads later. All-append ReadsLog made rest reads (made_reads [] rest (All-nil ReadsLog) later)))
+
+-- the records that are left lead to what all lead to
+left_replays : (s : State) (count : ℕ) (bytes : List ℕ) (end : Recovery) → Replayed s count bytes → Replays empty (records_of bytes) end → Replays s (drop count (records_of bytes)) end
+left_replays s count bytes end replayed all =
+    let some = replays_some s (drop count (records_of bytes)) in
+    subst (λ (e : Recovery). Replays s (drop count (records_of bytes)) e) (replays_one empty (records_of bytes) some.0 end (replayed.from some.0 some.1) all) some.1
+
+-- a read of the next record failed, which doesn't stand behind one that is damage
+pub read_fails : (a b c : Option (List ℕ)) (j0 j1 j2 : Option (List Call)) (s : State) (log : Place) → ToldReplayed a b s log.read → RecordsRead a b j0 j1 log.read → IfSome b (Holds log) → Kept b c
+    → IfSome b (λ _. s.span ≡ log.next) → log.file ≡ 1 → Told b c (λ was _. Extends j1 j2 (FailAmong (record_reads log.file log.next (length_of (drop (log.next + 1) was)))))
+    → Told a c (λ was _. (file offset : ℕ) → Replays empty (records_of was) (Damaged file offset) → Extends j0 j2 (FailAtRecord [] (records_of was) offset))
+read_fails a b c j0 j1 j2 s log replayed read holds kept at one fault =
+    let Read = λ (was : List ℕ). Extends j0 j1 (AreMade (records_reads 1 (records_of was) log.read)) in
+    let Fails = λ (was : List ℕ). Extends j1 j2 (FailAmong (record_reads log.file log.next (length_of (drop (log.next + 1) was)))) in
+    told_both a b c (told_also (λ was now. (now ≡ was) × Replayed s log.read was) (λ was _. Read was) a b replayed read)
+    (told_also (λ was _. Fails was) (λ was _. Holds log was × (s.span ≡ log.next)) b c fault
+    (told_also (λ was _. Holds log was) (λ _ _. s.span ≡ log.next) b c (told_holds b c (Holds log) kept holds) (told_holds b c (λ _. s.span ≡ log.next) kept at))) (λ x y z p q file offset replays.
+    let rs = records_of x in
+    let there = subst (Holds log) p.0.0 q.1.0 in
+    let bad = damaged_record rs file offset replays in
+    let far = damage_behind s (drop log.read rs) file offset (left_replays s log.read x (Damaged file offset) p.0.1 replays) in
+    let order : log.read ≤ bad.number = no_earlier rs log.read bad.number bad.bytes bad.got (omega (arith, far, bad.place, q.1.1, there.next)) in
+    let next = get_or rs log.read [] in
+    let got : slice_get rs log.read ≡ Some next = slice_get-get_or rs log.read [] (omega (arith, order, slice_get_within rs bad.number bad.bytes bad.got)) in
+    let size : length_of (drop (log.next + 1) x) ≡ length next = ap (λ place. length_of (drop (place + 1) x)) there.next ∙ record_length x log.read next got in
+    let list : record_reads log.file log.next (length_of (drop (log.next + 1) x)) ≡ record_reads 1 (records_span (take log.read rs)) (length next) =
+    ap (record_reads log.file log.next) size ∙ next_reads log x next one there got in
+    extends_both (AreMade (records_reads 1 rs log.read)) (FailAmong (record_reads 1 (records_span (take log.read rs)) (length next))) (FailAtRecord [] rs offset) j0 j1 j2 p.1
+    (subst (λ (l : List Call). Extends j1 j2 (FailAmong l)) list (subst Fails p.0.0 q.0)) (λ done more made fail. record {
+      number = bad.number;
+      place = omega (arith, bad.place);
+      fail = fail_more (records_reads 1 rs (suc log.read)) (records_reads 1 rs (suc bad.number)) (done ++ more) (records_front 1 rs (suc log.read) (suc bad.number) (omega (arith, order)))
+          (fail_later (records_reads 1 rs log.read) (record_reads 1 (records_span (take log.read rs)) (length next)) done more made fail);
+    }))
+
+pub fault_opening : (e : LogError) → opening_error e ≡ open_error.DiskFault → e ≡ log_error.DiskFault
+fault_opening log_error.DiskFault is = refl
+fault_opening (log_error.NotALog o) is = absurd cc
+fault_opening log_error.NoMemory is = absurd cc

@@ -1,0 +1,8 @@
+pub mod Tree
+pub mod Machine
+pub mod Command
+pub mod State
+pub mod Recovery
+pub mod Damage
+pub mod Store
+pub mod Opening

@@ -1,8 +1,0 @@
-use Rattle.std.proofs.Common.{◌≡◌, IsTrue, map, take}
-use Rattle.std.specs.List.{list_all}
-use Rattle.kh_term.specs.Make.{name_tree}
-use Rattle.khepri.specs.Command.{is_atom}
-use Rattle.khepri.proofs.command.names_of.Given as goal
-
-abbrev pub invariant-loop-part : goal.invariant-loop-part
-invariant-loop-part l = (map name_tree l.names.items ≡ take l.part-index l.parts) × IsTrue (list_all is_atom l.names.items)

@@ -1,5 +1,0 @@
-use Rattle.khepri.proofs.Recovery.{recovery_some, recovery_one}
-use Rattle.khepri.proofs.laws.one_recovery.Goals as goal
-
-pub returns : goal.returns
-returns c = record { some = recovery_some; one = recovery_one }

@@ -1,5 +1,0 @@
-use Rattle.std.proofs.Common.{◌∙◌, refl}
-use Rattle.khepri.proofs.machine.node_path.Goals as goal
-
-pub returns : goal.returns
-returns c = c.in_ok-map_of_one.ensures ∙ rw (c.in_ok-key.ensures, c.in_ok-value.ensures) refl
