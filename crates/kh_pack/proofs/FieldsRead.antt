@@ -1,7 +1,7 @@
 -- The fields that hold no terms: what is read is spelled so, and what is spelled so is read.
-use Rattle.std.proofs.Common.{◌≡◌, ◌<◌, ◌≤◌, ◌^◌, ◌*◌, ℕ, true, false, cond, ◌&&◌, ltb, eqb, List, [], ◌∷◌, ◌++◌, length, take, drop, Option, Some, None, refl, ap, sym, subst, ◌∙◌, arith, ℤ}
+use Rattle.std.proofs.Common.{◌≡◌, ◌<◌, ◌≤◌, ◌^◌, ◌*◌, ℕ, true, false, cond, ◌&&◌, ltb, leb, eqb, List, [], ◌∷◌, ◌++◌, length, take, drop, Option, Some, None, refl, ap, sym, subst, ◌∙◌, arith, ℤ}
 use Rattle.std.specs.Int.{w32, w128, to_be_bytes, from_be_bytes, bytes_high_first, cast_unsigned}
-use Rattle.std.proofs.lemmas.Bool.{ltb-false, le-ltb, ne_eqb, eqb-true, eqb-false, and_parts}
+use Rattle.std.proofs.lemmas.Bool.{ltb-false, le-ltb, ne_eqb, eqb-true, eqb-false, and_parts, leb-true}
 use Rattle.std.proofs.lemmas.List.{take_at, drop_at, take-append-drop, length-append, length-take, append-nil}
 use Rattle.std.proofs.lemmas.Nat.{be_bytes_4, from_be_bytes-to_be_bytes_4, pow_pos}
 use Rattle.std.proofs.Math.Nat.{mod-lt}
@@ -9,6 +9,7 @@ use Rattle.std.proofs.lemmas.Option.{same_Some}
 use borrow.Author.Tests.{eq-eqb}
 use Rattle.byteorder.specs.Endian.{big_number, twos_complement, low_bytes}
 use Rattle.byteorder.specs.Numbers.{big_from-lt, big_number-reads_back, length-bytes_high_first}
+use Rattle.std.specs.Str.{is_utf8}
 use Rattle.kh_term.specs.declared.name.Origin.{Origin}
 use Rattle.kh_term.specs.Packed.{behind_sign, integer_len, integer_bytes, short_text}
 use Rattle.kh_term.specs.Text.{is_atom_text}
@@ -105,7 +106,17 @@ binary_again text rest small =
 abbrev pub origin_bytes : Origin → List ℕ
 origin_bytes origin = short_text origin.module ++ (short_text origin.name ++ (origin.arity ∷ []))
 
-pub origin_takes : (bytes : List ℕ) (x : Origin × List ℕ) → IsBytes bytes → origin_at bytes ≡ Some x → Takes bytes (origin_bytes x.0) x.1
+-- the text of an atom has at most 255 bytes
+short : (text : List ℕ) → is_atom_text text ≡ true → length text ≤ 255
+short text is = leb-true (length text) 255 (and_parts (leb (length text) 255) (is_utf8 text) is).0
+
+-- an origin was read, and its texts are short
+pub record IsOrigin (bytes : List ℕ) (origin : Origin) (rest : List ℕ) : Type 0 where
+  pub takes : Takes bytes (origin_bytes origin) rest
+  pub short_module : length origin.module ≤ 255
+  pub short_name : length origin.name ≤ 255
+
+pub origin_takes : (bytes : List ℕ) (x : Origin × List ℕ) → IsBytes bytes → origin_at bytes ≡ Some x → IsOrigin bytes x.0 x.1
 unfolding origin_at
 origin_takes bytes x fits e =
     let made : (List ℕ × List ℕ) → (List ℕ × List ℕ) → (ℕ × List ℕ) → Origin × List ℕ = λ h n a. (record { «module» = h.0; name = n.0; arity = a.0 }, a.1) in
@@ -117,7 +128,8 @@ origin_takes bytes x fits e =
     let arity = first_takes b.0.1 c.0 name.0.rest_fits c.1 in
     let behind = Takes-then a.0.1 (short_text b.0.0) b.0.1 (c.0.0 ∷ []) c.0.1 name.0 arity.0 in
     let whole = Takes-then bytes (short_text a.0.0) a.0.1 (short_text b.0.0 ++ (c.0.0 ∷ [])) c.0.1 home.0 behind in
-    subst (λ (y : Origin × List ℕ). Takes bytes (origin_bytes y.0) y.1) (same_Some (made a.0 b.0 c.0) x c.2) whole
+    subst (λ (y : Origin × List ℕ). IsOrigin bytes y.0 y.1) (same_Some (made a.0 b.0 c.0) x c.2)
+    (record { takes = whole; short_module = short a.0.0 home.1; short_name = short b.0.0 name.1 })
 
 pub origin_again : (origin : Origin) (rest : List ℕ) → is_origin origin ≡ true
     → origin_at (short_text origin.module ++ (short_text origin.name ++ (origin.arity ∷ rest))) ≡ Some (origin, rest)

@@ -258,7 +258,7 @@ closure_read depth one reads bytes x fits e =
     let c = passed (ltb o.arity n) (inside a.0 b.0) x b.2 in
     let d = bind_some (many_at one n [] b.0.1) (λ env. Some (tree.Closure o env.0, env.1)) x c.1 in
     let origin = origin_takes bytes a.0 fits a.1 in
-    let first = first_takes a.0.1 b.0 origin.rest_fits b.1 in
+    let first = first_takes a.0.1 b.0 origin.takes.rest_fits b.1 in
     let many = many_read depth one reads n [] b.0.1 d.0 first.0.rest_fits d.1 in
     let is : (tree.Closure o many.parts, d.0.1) ≡ x = ap (λ (ts : List TermTree). (tree.Closure o ts, d.0.1)) (sym many.are) ∙ same_Some (tree.Closure o d.0.0, d.0.1) x d.2 in
     let behind = Takes-then a.0.1 (n ∷ []) b.0.1 (all_packed_of many.parts) d.0.1 first.0 many.takes in
@@ -266,9 +266,9 @@ closure_read depth one reads bytes x fits e =
       text = origin_bytes o ++ (n ∷ all_packed_of many.parts);
       spelled = packed-Closure o many.parts ∙ (ap (λ m. 8 ∷ (short_text o.module ++ (short_text o.name ++ (o.arity ∷ m ∷ all_packed_of many.parts)))) many.number
           ∙ ap (λ w. 8 ∷ w) (closure_text o n (all_packed_of many.parts)));
-      takes = Takes-then bytes (origin_bytes o) a.0.1 (n ∷ all_packed_of many.parts) d.0.1 origin behind;
+      takes = Takes-then bytes (origin_bytes o) a.0.1 (n ∷ all_packed_of many.parts) d.0.1 origin.takes behind;
       shallow = omega (arith, depth-Closure o many.parts, many.shallow);
-      narrow = omega (arith, width-Closure o many.parts, many.narrow, many.number, first.1);
+      narrow = omega (arith, width-Closure o many.parts, many.narrow, many.number, first.1, origin.short_module, origin.short_name);
     })
 
 -- ---- any term

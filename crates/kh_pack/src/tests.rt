@@ -24,7 +24,6 @@ fn packs(rt: &impl Abort, alloc: Global, term: &Term, expected: &[u8]) -> Result
 }
 
 fn refuses(rt: &impl Abort, alloc: Global, bytes: &[u8], at: usize) {
-    assert!(rt; at <= bytes.len());
     match unpack(alloc, bytes, at) {
         Err(UnpackError::NotPacked(place)) => assert_eq!(rt; place, at),
         _ => panic!(rt; "read, or out of memory"),
@@ -208,4 +207,11 @@ fn depth_256_and_no_more(rt: HostRuntime) -> Result<(), Fail> {
         refuses(&rt, alloc, nested(alloc, 257, tag)?.as_slice(), 0);
     }
     Ok(())
+}
+
+#[test]
+fn nothing_is_packed_past_the_end(rt: HostRuntime) {
+    for at in [1, 2, usize::MAX] {
+        refuses(&rt, rt.alloc(), &[4], at);
+    }
 }

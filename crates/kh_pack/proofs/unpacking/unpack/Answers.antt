@@ -5,12 +5,12 @@ use Rattle.kh_pack.proofs.unpacking.unpack.Goals as goal
 pub overflow_sub-result : goal.overflow_sub-result
 overflow_sub-result c =
     (read_is_placed c.args.bytes.now c.args.at c.split_at.result.1.now c.in-Ok.term.node c.in-Ok.rest.now (λ i. omega (arith, c.type_inv.bytes i))
-    c.requires.within c.split_at.ensures.back c.in-Ok.ensures).fits
+    (omega (arith, c.if-at-bytes.false)) c.split_at.ensures.back c.in-Ok.ensures).fits
 
 pub returns-in-Ok-clause-found : goal.returns-in-Ok-clause-found
 returns-in-Ok-clause-found c =
     (read_is_placed c.args.bytes.now c.args.at c.split_at.result.1.now c.in-Ok.term.node c.in-Ok.rest.now (λ i. omega (arith, c.type_inv.bytes i))
-    c.requires.within c.split_at.ensures.back c.in-Ok.ensures).stands
+    (omega (arith, c.if-at-bytes.false)) c.split_at.ensures.back c.in-Ok.ensures).stands
 
 pub returns-in-Ok-clause-only : goal.returns-in-Ok-clause-only
 returns-in-Ok-clause-only c = λ t end stands.
