@@ -1,12 +1,12 @@
--- Files that stay, for the crates above: over no call, and over two.
+-- A file that stays, for the crates above: over no call, and over two.
 use Rattle.std.proofs.Common.{ℕ, List, Option, Some, None, refl}
 use Rattle.std.specs.Prelude.{IsSome}
 use Rattle.kh_io.specs.Told.{Kept}
-use Rattle.kh_io.specs.Disk.{Stays, FilesStay}
+use Rattle.kh_io.specs.Disk.{Stays}
 use Rattle.kh_io.proofs.Telling.{kept_same, kept_both}
 
-pub files_same : (seen : ℕ → Option (List ℕ)) (image : ℕ → List ℕ → Type 0) → FilesStay seen seen image image
-files_same seen image file lt = record { read = kept_same (seen file); only = λ bytes left. left; all = λ told bytes left. left }
+pub stays_always : (seen : Option (List ℕ)) (image : List ℕ → Type 0) → Stays seen seen image image
+stays_always seen image = record { read = kept_same seen; only = λ bytes left. left; all = λ told bytes left. left }
 
 pub stays_both : {a b c : Option (List ℕ)} {i j k : List ℕ → Type 0} → Stays a b i j → Stays b c j k → Stays a c i k
 stays_both {a} {b} {c} first second = record {

@@ -5,9 +5,13 @@ use Rattle.std.proofs.Math.Seq.{take-length}
 use Rattle.std.proofs.lemmas.List.Sums.{sum_by_push}
 use Rattle.std.proofs.lemmas.Bool.{true≢false, false≢true, cases_lt}
 use Rattle.kh_io.specs.declared.files.Files.{Files}
-use Rattle.kh_io.specs.Call.{Call, cost, Take, Give, Len, ReadAt, WriteAt, Cut, Sync}
-use Rattle.kh_io.specs.Disk.{Stays, Follows, Torn, CutBack, CutPart, IsSafe, Elapses}
-use Rattle.kh_io.specs.Told.{Told, Gains, Rose, IsFrontOf}
+use Rattle.std.specs.Prelude.{All}
+use Rattle.std.proofs.lemmas.List.Elements.{All-nil, All-cons}
+use Rattle.kh_io.specs.Call.{Call, IsOfDisk, cost, Take, Give, Len, ReadAt, WriteAt, Cut, Sync}
+use Rattle.kh_io.specs.Disk.{AreImages, TellsFiles, Stays, Follows, Torn, CutBack, CutPart, IsSafe}
+use Rattle.kh_io.specs.View.{View}
+use Rattle.kh_io.specs.Frames.{Elapses}
+use Rattle.kh_io.specs.Told.{Told, Extends, Gains, Rose, IsFrontOf}
 use Rattle.kh_io.specs.Memory.{one_more}
 use Rattle.kh_io.specs.FileState.{FileState, synced, written, cut_to, after, state_after, IsImage}
 use Rattle.kh_io.specs.Recording.{Recording, HasRoom, takes, gives, left_after, given_in, seen_after, image_after, left_since}
@@ -107,9 +111,18 @@ sync_only first calls file bytes image =
     subst (image_after first calls file) (sym (image_of_synced (seen_after first calls file) bytes now))
     (now_is_image (state_after file first calls) (sane_state file first calls))
 
+-- time goes on, of a host's parts
+pub record Passes (told : Type 0) (before now : ℕ) (past since : ℕ → Files → ℕ → Type 0) (image : ℕ → List ℕ → Type 0) (stamp stamp' : ℕ) : Type 0 where
+  pub later : before ≤ now
+  pub nothing_else : (t : ℕ) (files : Files) (s : ℕ) → t ≤ before → since t files s → past t files s ⊎ (AreImages image files × (stamp ≤ s) × (s ≤ stamp'))
+  pub keeps : told → (t : ℕ) (files : Files) (s : ℕ) → t ≤ before → past t files s → since t files s
+
+pub elapses : (v w : View) → Passes (TellsFiles w.seen) v.moment w.moment v.since w.since w.image v.stamp w.stamp → Elapses v w
+elapses v w passes = record { later = passes.later; nothing_else = passes.nothing_else; keeps = passes.keeps }
+
 -- time goes on in a call that is noted
 pub time_noted : (told : Type 0) (first : Files) (calls : List Call) (call : Call)
-    → Elapses told (length calls) (length (calls ++ call ∷ [])) (left_since first calls) (left_since first (calls ++ call ∷ []))
+    → Passes told (length calls) (length (calls ++ call ∷ [])) (left_since first calls) (left_since first (calls ++ call ∷ []))
     (image_after first (calls ++ call ∷ [])) (length (given_in calls)) (length (given_in (calls ++ call ∷ [])))
 time_noted told first calls call =
     let more : List Call = calls ++ call ∷ [] in
@@ -133,7 +146,7 @@ time_noted told first calls call =
 
 -- and stands in one that isn't
 pub time_stands : (told : Type 0) (first : Files) (calls : List Call)
-    → Elapses told (length calls) (length calls) (left_since first calls) (left_since first calls) (image_after first calls) (length (given_in calls)) (length (given_in calls))
+    → Passes told (length calls) (length calls) (left_since first calls) (left_since first calls) (image_after first calls) (length (given_in calls)) (length (given_in calls))
 time_stands told first calls = record {
   later = omega arith;
   nothing_else = λ t files s before since. inl since;
@@ -181,6 +194,23 @@ gains_noted false calls call = tt
 pub gains_stopped : (tells : Bool) (calls : List Call) (call : Call) → Gains (if tells then Some calls else None) None call
 gains_stopped true calls call = tt
 gains_stopped false calls call = tt
+
+-- which is one of the disk
+pub one_noted : (tells : Bool) (calls : List Call) (call : Call) → IsOfDisk call
+    → Extends (if tells then Some calls else None) (if tells then Some (calls ++ call ∷ []) else None) (All IsOfDisk)
+one_noted true calls call is = (call ∷ [], refl, All-cons IsOfDisk call [] is (All-nil IsOfDisk))
+one_noted false calls call is = tt
+
+pub one_stopped : (tells : Bool) (calls : List Call) (call : Call) → IsOfDisk call → Extends (if tells then Some calls else None) None (All IsOfDisk)
+one_stopped true calls call is = tt
+one_stopped false calls call is = tt
+
+pub one_gone : (past : Bool) (calls : List Call) (call : Call) → IsOfDisk call → Extends (if past then None else Some calls) None (All IsOfDisk)
+one_gone true calls call is = tt
+one_gone false calls call is = tt
+
+pub one_done : (calls : List Call) (call : Call) → IsOfDisk call → Extends (Some calls) (Some (calls ++ call ∷ [])) (All IsOfDisk)
+one_done calls call is = (call ∷ [], refl, All-cons IsOfDisk call [] is (All-nil IsOfDisk))
 
 -- one fault more
 pub one_more_rose : (count : ℕ) → Rose count (one_more count)
@@ -239,7 +269,7 @@ pub gone_follows : {told : Type 0} {step : List ℕ → List ℕ → Type 0} (im
 gone_follows image untold = record { only = λ c none. absurd none; all = λ h d c was step. absurd (untold h) }
 
 pub gone_time : {told : Type 0} (moment stamp : ℕ) (past : ℕ → Files → ℕ → Type 0) (image : ℕ → List ℕ → Type 0) → (told → ⊥)
-    → Elapses told moment moment past (λ _ _ _. ⊥) image stamp stamp
+    → Passes told moment moment past (λ _ _ _. ⊥) image stamp stamp
 gone_time moment stamp past image untold = record {
   later = omega arith;
   nothing_else = λ t files s before none. absurd none;

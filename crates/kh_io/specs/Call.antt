@@ -51,3 +51,23 @@ moved (Sync file done) = 0
 -- what calls take of a room: 64 for each, and one for each byte that they move
 abbrev pub cost : List Call → ℕ
 cost calls = 64 * length calls + sum_by moved calls
+
+-- a call of the disk
+abbrev pub IsOfDisk : Call → Type 0
+IsOfDisk (Take asked bytes) = ⊥
+IsOfDisk (Give piece taken) = ⊥
+IsOfDisk (Len file len) = Unit {0}
+IsOfDisk (ReadAt file at asked bytes) = Unit {0}
+IsOfDisk (WriteAt file at bytes done) = Unit {0}
+IsOfDisk (Cut file len done) = Unit {0}
+IsOfDisk (Sync file done) = Unit {0}
+
+-- a call that only asks for a length, or reads
+abbrev pub IsAsking : Call → Type 0
+IsAsking (Take asked bytes) = ⊥
+IsAsking (Give piece taken) = ⊥
+IsAsking (Len file len) = Unit {0}
+IsAsking (ReadAt file at asked bytes) = Unit {0}
+IsAsking (WriteAt file at bytes done) = ⊥
+IsAsking (Cut file len done) = ⊥
+IsAsking (Sync file done) = ⊥

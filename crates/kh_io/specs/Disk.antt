@@ -1,5 +1,5 @@
 -- What the calls of a disk do to its files, and what a crash leaves of them.
-use Rattle.std.specs.Prelude.{◌≡◌, ◌≢◌, ◌⊎◌, ℕ, zero, suc, ◌+◌, ◌-◌, ◌<◌, ◌≤◌, max, min, List, ◌++◌, length, take, drop, Option, Some, IsSome}
+use Rattle.std.specs.Prelude.{◌≡◌, ℕ, zero, suc, ◌+◌, ◌-◌, ◌^◌, ◌<◌, ◌≤◌, max, min, List, ◌++◌, length, take, drop, Option, Some, IsSome, IfSome}
 use Rattle.kh_io.specs.declared.files.Files.{Files}
 use Rattle.kh_io.specs.Told.{Kept}
 
@@ -52,15 +52,6 @@ pub record Stays (seen seen' : Option (List ℕ)) (image image' : List ℕ → T
   pub only : (bytes : List ℕ) → image' bytes → image bytes
   pub all : IsSome seen' → (bytes : List ℕ) → image bytes → image' bytes
 
--- all files stay
-abbrev pub FilesStay : (seen seen' : ℕ → Option (List ℕ)) (image image' : ℕ → List ℕ → Type 0) → Type 0
-FilesStay seen seen' image image' = (file : ℕ) → file < 4 → Stays (seen file) (seen' file) (image file) (image' file)
-
--- all files but this one stay
-abbrev pub OthersStay : ℕ → (seen seen' : ℕ → Option (List ℕ)) (image image' : ℕ → List ℕ → Type 0) → Type 0
-OthersStay this seen seen' image image' =
-    (file : ℕ) → file < 4 → file ≢ this → Stays (seen file) (seen' file) (image file) (image' file)
-
 -- a crash leaves of a file what a read gives
 abbrev pub IsSafe : Option (List ℕ) → (List ℕ → Type 0) → Type 0
 IsSafe seen image = (bytes : List ℕ) → image bytes → seen ≡ Some bytes
@@ -70,17 +61,7 @@ pub record IsReadAt (file : List ℕ) (at n : ℕ) (buffer : List ℕ) : Type 0 
   pub count : n ≡ min (length buffer) (length file - at)
   pub bytes : take n buffer ≡ take n (drop at file)
 
--- Time goes on in a call: a crash since t might have left what it might have left before the call, or what it may leave now,
--- with a stamp from that at entry to that at exit.
-pub record Elapses (told : Type 0) (before now : ℕ) (past since : ℕ → Files → ℕ → Type 0) (image : ℕ → List ℕ → Type 0) (stamp stamp' : ℕ) : Type 0 where
-  pub later : before ≤ now
-  pub nothing_else : (t : ℕ) (files : Files) (s : ℕ) → t ≤ before → since t files s
-      → past t files s ⊎ (AreImages image files × (stamp ≤ s) × (s ≤ stamp'))
-  pub keeps : told → (t : ℕ) (files : Files) (s : ℕ) → t ≤ before → past t files s → since t files s
-
--- A crash at any moment since entry leaves files and a stamp of which P holds.
-pub record LeavesOnly (before now : ℕ) (past since : ℕ → Files → ℕ → Type 0) (P : Files → ℕ → Type 0) : Type 0 where
-  pub later : before ≤ now
-  pub each : (files : Files) (s : ℕ) → since before files s → P files s
-  -- for a run that began earlier
-  pub earlier : (t : ℕ) (files : Files) (s : ℕ) → t ≤ before → since t files s → past t files s ⊎ P files s
+-- so many bytes may be written at this place of a file: it is no further than the end, where the file is told, and not too far
+pub record MayWrite (seen : Option (List ℕ)) (at n : ℕ) : Type 0 where
+  pub start : IfSome seen (λ bytes. at ≤ length bytes)
+  pub end : at + n ≤ 2 ^ 62

@@ -8,6 +8,8 @@ use Rattle.kh_io.specs.declared.files.Files.{Files}
 use Rattle.kh_io.specs.Call.{Call, Take, Give, Len, ReadAt, WriteAt, Cut, Sync}
 use Rattle.kh_io.specs.Disk.{file_of, put, AreImages}
 use Rattle.kh_io.specs.FileState.{FileState, synced, written, cut_to, after, state_after, IsImage}
+use Rattle.kh_io.specs.View.{View}
+use Rattle.kh_io.specs.Frames.{OfView}
 use Rattle.kh_io.specs.Recording.{given_in, seen_after, image_after, left_since}
 
 -- what a read gives has a length between the least and the greatest
@@ -84,6 +86,9 @@ pub since_now : (first : Files) (calls : List Call) (files : Files) (s : ℕ) �
 since_now first calls files s (k, le, le', images, stamp) =
     let all : take k calls ≡ calls = take_all k calls le in
     (rw all at images, stamp ∙ ap (λ cs. length (given_in cs)) all)
+
+pub now_of : (v : View) (files : Files) (s : ℕ) → AreImages v.image files × (s ≡ v.stamp) → OfView v files s
+now_of v files s (images, stamp) = record { images = images; stamp = stamp }
 
 none_not_some : {A : Type 0} {a : A} → None ≡ Some a → ⊥
 none_not_some {A} same = false≢true (ap is_some same)

@@ -2,6 +2,8 @@ pub mod Call
 pub mod Told
 pub mod Host
 pub mod Disk
+pub mod View
+pub mod Frames
 pub mod JournalState
 pub mod Contents
 pub mod Memory

@@ -3,7 +3,8 @@ use Rattle.std.specs.Prelude.{ℕ, ◌+◌, ◌-◌, ◌^◌, min, Bool, true, f
 use Rattle.std.specs.List.{list_any}
 use Rattle.kh_io.specs.declared.files.Files.{Files}
 use Rattle.kh_io.specs.Call.{Call}
-use Rattle.kh_io.specs.Recording.{Recording, left_after, seen_after, noted}
+use Rattle.kh_io.specs.Recording.{Recording, left_after, given_in, seen_after, image_after, left_since, noted}
+use Rattle.kh_io.specs.View.{View}
 
 pub record Memory : Type 0 where
   -- the input, the files and the calls so far
@@ -34,6 +35,20 @@ fresh input first failing room = record {
 -- its journal: all its calls, while none was past the room
 abbrev pub journal_of : Memory → Option (List Call)
 journal_of m = if m.tells then Some m.tape.calls else None
+
+-- what it tells
+abbrev pub memory_view : Memory → View
+memory_view m = record {
+  seen = λ file. Some (seen_after m.tape.first m.tape.calls file);
+  image = image_after m.tape.first m.tape.calls;
+  moment = length m.tape.calls;
+  since = left_since m.tape.first m.tape.calls;
+  stamp = length (given_in m.tape.calls);
+  left = Some (left_after m.tape.input m.tape.calls);
+  given = Some (given_in m.tape.calls);
+  journal = journal_of m;
+  faults = record { disk = m.disk_faults; reads = m.read_faults; writes = m.write_faults };
+}
 
 -- the next call is listed
 abbrev pub is_listed : Memory → Bool

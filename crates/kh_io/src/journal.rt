@@ -125,7 +125,10 @@ impl Journal {
     pub fn add(&mut self, entry: Entry, bytes: &[u8])
         requires sizes { byte_count entry ≡ length bytes.now }
         requires fits { Fits self.old.calls self.old.room (length bytes.now) }
-        ensures { self.new ≡ record { calls = self.old.calls ++ call_of entry bytes.now ∷ []; room = self.old.room } }
+        ensures { self.new ≡ record {
+          calls = self.old.calls ++ call_of entry bytes.now ∷ [];
+          room = self.old.room;
+        } }
     {
         self.entries.push_reserved(entry);
         room::append(&mut self.bytes, bytes);
@@ -140,7 +143,8 @@ impl Journal {
         file: u8,
     ) -> Result<Replay, NoMemory>
         requires { calls ≤ length self.now.calls }
-        ensures { IfOk result (λ r. Shows (fold (after file) (synced first.now) (take calls self.now.calls)) r) }
+        ensures { IfOk result (λ r. Shows
+            (fold (after file) (synced first.now) (take calls self.now.calls)) r) }
     {
         replay::replayed(alloc, first, &self.entries[..calls], &self.bytes, file)
     }

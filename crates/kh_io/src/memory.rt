@@ -84,8 +84,10 @@ impl MemoryHost {
     /// that isn't yet safe is as written, or this byte.
     pub fn image(&self, calls: u64, fill: Option<u8>) -> Result<Files, NoMemory>
         requires { calls ≤ length self.now.tape.calls }
-        ensures filled { IfOk result (AreFilled self.now.tape.first (take calls self.now.tape.calls) fill) }
-        ensures image { IfOk result (AreImages (image_after self.now.tape.first (take calls self.now.tape.calls))) }
+        ensures filled { IfOk result (AreFilled self.now.tape.first
+            (take calls self.now.tape.calls) fill) }
+        ensures image { IfOk result (AreImages
+            (image_after self.now.tape.first (take calls self.now.tape.calls))) }
     {
         self.recorder.image(calls as usize, fill)
     }
@@ -131,30 +133,10 @@ impl MemoryHost {
 }
 
 impl Disk for MemoryHost {
-    ghost use Rattle.kh_io.specs.Laws.{seen_is_left, some_not_none, stamp_is, now_since, since_now};
-    ghost use Rattle.kh_io.specs.Memory.{journal_of, is_listed, add_call, stopped, disk_fault, read_moves, read_len};
+    ghost use Rattle.kh_io.specs.Laws.{seen_is_left, some_not_none, stamp_is, now_since, since_now, now_of};
+    ghost use Rattle.kh_io.specs.Memory.{memory_view, is_listed, add_call, stopped, disk_fault, read_moves, read_len};
 
-    ghost seen = { λ m file. Some (seen_after m.tape.first m.tape.calls file) };
-
-    ghost image = { λ m. image_after m.tape.first m.tape.calls };
-
-    ghost moment = { λ m. length m.tape.calls };
-
-    ghost stamp = { λ m. length (given_in m.tape.calls) };
-
-    ghost left_since = { λ m. left_since m.tape.first m.tape.calls };
-
-    ghost left = { λ m. Some (left_after m.tape.input m.tape.calls) };
-
-    ghost given = { λ m. Some (given_in m.tape.calls) };
-
-    ghost journal = { journal_of };
-
-    ghost disk_faults = { λ m. m.disk_faults };
-
-    ghost read_faults = { λ m. m.read_faults };
-
-    ghost write_faults = { λ m. m.write_faults };
+    ghost view = { memory_view };
 
     ghost seen_is_image = { λ m file bytes lt same. seen_is_left m.tape.first m.tape.calls file bytes same };
 
@@ -164,16 +146,19 @@ impl Disk for MemoryHost {
 
     ghost counts_now = { λ m t files le images. now_since m.tape.first m.tape.calls t files le images };
 
-    ghost only_now = { λ m files s left. since_now m.tape.first m.tape.calls files s left };
+    ghost only_now = { λ m files s left. now_of (memory_view m) files s (since_now m.tape.first m.tape.calls files s left) };
 
     fn len(&mut self, file: u8) -> Result<u64, Failed>
         requires { file < 4 }
-        ensures past { (HasRoom self.old.tape 0 → ⊥) → (result ≡ Err failed) × (self.new ≡ disk_fault (stopped self.old)) }
+        ensures past { (HasRoom self.old.tape 0 → ⊥) → (result ≡ Err failed)
+            × (self.new ≡ disk_fault (stopped self.old)) }
         ensures listed { HasRoom self.old.tape 0 → IsTrue (is_listed self.old)
             → (result ≡ Err failed) × (self.new ≡ disk_fault (add_call self.old (Len file None))) }
         ensures done { HasRoom self.old.tape 0 → IsFalse (is_listed self.old)
             → (result ≡ Ok (length (seen_after self.old.tape.first self.old.tape.calls file)))
-            × (self.new ≡ add_call self.old (Len file (Some (length (seen_after self.old.tape.first self.old.tape.calls file))))) }
+            × (self.new ≡ add_call self.old
+            (Len file
+            (Some (length (seen_after self.old.tape.first self.old.tape.calls file))))) }
     {
         if !self.recorder.fits(0) {
             return Err(self.refuse());
@@ -194,12 +179,18 @@ impl Disk for MemoryHost {
         requires { file < 4 }
         ensures past { (HasRoom self.old.tape (read_moves self.old file at (length into.old)) → ⊥)
             → (result ≡ Err failed) × (self.new ≡ disk_fault (stopped self.old)) }
-        ensures listed { HasRoom self.old.tape (read_moves self.old file at (length into.old)) → IsTrue (is_listed self.old)
-            → (result ≡ Err failed) × (self.new ≡ disk_fault (add_call self.old (ReadAt file at (length into.new) None))) }
-        ensures done { HasRoom self.old.tape (read_moves self.old file at (length into.old)) → IsFalse (is_listed self.old)
+        ensures listed { HasRoom self.old.tape (read_moves self.old file at (length into.old))
+            → IsTrue (is_listed self.old)
+            → (result ≡ Err failed) × (self.new ≡ disk_fault
+            (add_call self.old (ReadAt file at (length into.new) None))) }
+        ensures done { HasRoom self.old.tape (read_moves self.old file at (length into.old))
+            → IsFalse (is_listed self.old)
             → (result ≡ Ok (read_len self.old.tape file at (length into.new)))
-            × IsReadAt (seen_after self.old.tape.first self.old.tape.calls file) at (read_len self.old.tape file at (length into.new)) into.new
-            × (self.new ≡ add_call self.old (ReadAt file at (length into.new) (Some (take (read_len self.old.tape file at (length into.new)) into.new)))) }
+            × IsReadAt (seen_after self.old.tape.first self.old.tape.calls file) at
+            (read_len self.old.tape file at (length into.new)) into.new
+            × (self.new ≡ add_call self.old
+            (ReadAt file at (length into.new)
+            (Some (take (read_len self.old.tape file at (length into.new)) into.new)))) }
     {
         let listed = self.is_listed();
         let count = if listed {
@@ -227,9 +218,11 @@ impl Disk for MemoryHost {
         requires file { file < 4 }
         requires start { at ≤ length (seen_after self.old.tape.first self.old.tape.calls file) }
         requires end { at + length bytes.now ≤ 2 ^ 62 }
-        ensures past { (HasRoom self.old.tape (length bytes.now) → ⊥) → (result ≡ Err failed) × (self.new ≡ disk_fault (stopped self.old)) }
+        ensures past { (HasRoom self.old.tape (length bytes.now) → ⊥) → (result ≡ Err failed)
+            × (self.new ≡ disk_fault (stopped self.old)) }
         ensures listed { HasRoom self.old.tape (length bytes.now) → IsTrue (is_listed self.old)
-            → (result ≡ Err failed) × (self.new ≡ disk_fault (add_call self.old (WriteAt file at bytes.now false))) }
+            → (result ≡ Err failed) × (self.new ≡ disk_fault
+            (add_call self.old (WriteAt file at bytes.now false))) }
         ensures done { HasRoom self.old.tape (length bytes.now) → IsFalse (is_listed self.old)
             → (result ≡ Ok tt) × (self.new ≡ add_call self.old (WriteAt file at bytes.now true)) }
     {
@@ -252,9 +245,11 @@ impl Disk for MemoryHost {
     fn cut(&mut self, file: u8, len: u64) -> Result<(), Failed>
         requires file { file < 4 }
         requires len { len ≤ length (seen_after self.old.tape.first self.old.tape.calls file) }
-        ensures past { (HasRoom self.old.tape 0 → ⊥) → (result ≡ Err failed) × (self.new ≡ disk_fault (stopped self.old)) }
+        ensures past { (HasRoom self.old.tape 0 → ⊥) → (result ≡ Err failed)
+            × (self.new ≡ disk_fault (stopped self.old)) }
         ensures listed { HasRoom self.old.tape 0 → IsTrue (is_listed self.old)
-            → (result ≡ Err failed) × (self.new ≡ disk_fault (add_call self.old (Cut file len false))) }
+            → (result ≡ Err failed) × (self.new ≡ disk_fault
+            (add_call self.old (Cut file len false))) }
         ensures done { HasRoom self.old.tape 0 → IsFalse (is_listed self.old)
             → (result ≡ Ok tt) × (self.new ≡ add_call self.old (Cut file len true)) }
     {
@@ -275,9 +270,11 @@ impl Disk for MemoryHost {
 
     fn sync(&mut self, file: u8) -> Result<(), Failed>
         requires { file < 4 }
-        ensures past { (HasRoom self.old.tape 0 → ⊥) → (result ≡ Err failed) × (self.new ≡ disk_fault (stopped self.old)) }
+        ensures past { (HasRoom self.old.tape 0 → ⊥) → (result ≡ Err failed)
+            × (self.new ≡ disk_fault (stopped self.old)) }
         ensures listed { HasRoom self.old.tape 0 → IsTrue (is_listed self.old)
-            → (result ≡ Err failed) × (self.new ≡ disk_fault (add_call self.old (Sync file false))) }
+            → (result ≡ Err failed) × (self.new ≡ disk_fault
+            (add_call self.old (Sync file false))) }
         ensures done { HasRoom self.old.tape 0 → IsFalse (is_listed self.old)
             → (result ≡ Ok tt) × (self.new ≡ add_call self.old (Sync file true)) }
     {
@@ -298,12 +295,19 @@ impl Host for MemoryHost {
     fn take(&mut self, into: &mut [u8]) -> Result<usize, Failed>
         ensures past { (HasRoom self.old.tape (take_moves self.old (length into.old)) → ⊥)
             → (result ≡ Err failed) × (self.new ≡ read_fault (stopped self.old)) }
-        ensures listed { HasRoom self.old.tape (take_moves self.old (length into.old)) → IsTrue (is_listed self.old)
-            → (result ≡ Err failed) × (self.new ≡ read_fault (add_call self.old (Take (length into.new) None))) }
-        ensures done { HasRoom self.old.tape (take_moves self.old (length into.old)) → IsFalse (is_listed self.old)
+        ensures listed { HasRoom self.old.tape (take_moves self.old (length into.old))
+            → IsTrue (is_listed self.old)
+            → (result ≡ Err failed) × (self.new ≡ read_fault
+            (add_call self.old (Take (length into.new) None))) }
+        ensures done { HasRoom self.old.tape (take_moves self.old (length into.old))
+            → IsFalse (is_listed self.old)
             → (result ≡ Ok (take_len self.old.tape (length into.new)))
-            × (take (take_len self.old.tape (length into.new)) into.new ≡ take (take_len self.old.tape (length into.new)) (left_after self.old.tape.input self.old.tape.calls))
-            × (self.new ≡ add_call self.old (Take (length into.new) (Some (take (take_len self.old.tape (length into.new)) into.new)))) }
+            × (take (take_len self.old.tape (length into.new)) into.new ≡ take
+            (take_len self.old.tape (length into.new))
+            (left_after self.old.tape.input self.old.tape.calls))
+            × (self.new ≡ add_call self.old
+            (Take (length into.new) (Some (take
+            (take_len self.old.tape (length into.new)) into.new)))) }
     {
         let listed = self.is_listed();
         let count = if listed {
@@ -324,11 +328,14 @@ impl Host for MemoryHost {
     }
 
     fn give(&mut self, bytes: &[u8]) -> Result<usize, Failed>
-        ensures past { (HasRoom self.old.tape (length bytes.now) → ⊥) → (result ≡ Err failed) × (self.new ≡ write_fault (stopped self.old)) }
+        ensures past { (HasRoom self.old.tape (length bytes.now) → ⊥) → (result ≡ Err failed)
+            × (self.new ≡ write_fault (stopped self.old)) }
         ensures listed { HasRoom self.old.tape (length bytes.now) → IsTrue (is_listed self.old)
-            → (result ≡ Err failed) × (self.new ≡ write_fault (add_call self.old (Give bytes.now None))) }
+            → (result ≡ Err failed) × (self.new ≡ write_fault
+            (add_call self.old (Give bytes.now None))) }
         ensures done { HasRoom self.old.tape (length bytes.now) → IsFalse (is_listed self.old)
-            → (result ≡ Ok (length bytes.now)) × (self.new ≡ add_call self.old (Give bytes.now (Some (length bytes.now)))) }
+            → (result ≡ Ok (length bytes.now))
+            × (self.new ≡ add_call self.old (Give bytes.now (Some (length bytes.now)))) }
     {
         if !self.recorder.fits(bytes.len()) {
             self.tells = false;

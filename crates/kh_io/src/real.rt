@@ -221,28 +221,9 @@ fn write_some<W: Write>(output: &mut W, bytes: &[u8]) -> io::Result<usize>
 
 impl<R: Runtime> Disk for RealHost<R> {
     ghost use Rattle.kh_io.specs.Laws.{untold_is_left, untold_images};
+    ghost use Rattle.kh_io.specs.View.{untold};
 
-    ghost seen = { λ _ _. None };
-
-    ghost image = { λ _ _ _. ⊥ };
-
-    ghost moment = { λ _. 0 };
-
-    ghost stamp = { λ _. 0 };
-
-    ghost left_since = { λ _ _ _ _. ⊥ };
-
-    ghost left = { λ _. None };
-
-    ghost given = { λ _. None };
-
-    ghost journal = { λ _. None };
-
-    ghost disk_faults = { λ h. h.disk };
-
-    ghost read_faults = { λ h. h.reads };
-
-    ghost write_faults = { λ h. h.writes };
+    ghost view = { untold };
 
     ghost seen_is_image = { λ _ _ bytes _ same. untold_is_left bytes same };
 

@@ -53,7 +53,12 @@ pub fn read_count(len: usize, at: u64, asked: usize) -> usize
 impl Recorder {
     /// A host before its first call, which takes the memory of its room.
     pub fn new(alloc: Global, input: Vec<u8>, first: Files, room: u64) -> Result<Recorder, NoMemory>
-        ensures { IfOk result (λ r. r ≡ record { input = input.items; first = first; calls = []; room = room }) }
+        ensures { IfOk result (λ r. r ≡ record {
+          input = input.items;
+          first = first;
+          calls = [];
+          room = room;
+        }) }
     {
         let journal = Journal::new(alloc, room)?;
         let output = Vec::with_capacity(alloc, room as usize)?;
@@ -120,8 +125,11 @@ impl Recorder {
         requires buffer { count ≤ length into.old }
         requires left { count ≤ length (left_after self.old.input self.old.calls) }
         requires room { HasRoom self.old count }
-        ensures noted { self.new ≡ noted self.old (Take (length into.new) (Some (take count (left_after self.old.input self.old.calls)))) }
-        ensures bytes { take count into.new ≡ take count (left_after self.old.input self.old.calls) }
+        ensures noted { self.new ≡ noted self.old
+            (Take (length into.new) (Some (take count
+            (left_after self.old.input self.old.calls)))) }
+        ensures bytes { take count into.new ≡ take count
+            (left_after self.old.input self.old.calls) }
     {
         let bytes = &self.input[self.taken..self.taken + count];
         into[..count].copy_from_slice(bytes);
@@ -153,10 +161,12 @@ impl Recorder {
     /// Reads bytes of a file into the front of a buffer, and notes it.
     pub fn read(&mut self, file: u8, at: u64, into: &mut [u8], count: usize)
         requires file { file < 4 }
-        requires count { count ≡ min (length into.old) (length (seen_after self.old.first self.old.calls file) - at) }
+        requires count { count ≡ min (length into.old)
+            (length (seen_after self.old.first self.old.calls file) - at) }
         requires room { HasRoom self.old count }
         ensures bytes { IsReadAt (seen_after self.old.first self.old.calls file) at count into.new }
-        ensures noted { self.new ≡ noted self.old (ReadAt file at (length into.new) (Some (take count into.new))) }
+        ensures noted { self.new ≡ noted self.old
+            (ReadAt file at (length into.new) (Some (take count into.new))) }
     {
         if count > 0 {
             let from = at as usize;
@@ -219,7 +229,8 @@ impl Recorder {
     ) -> Result<FileBytes, NoMemory>
         requires calls { calls ≤ length self.now.calls }
         requires first { first.now ≡ file_of self.now.first file }
-        ensures { IfOk result (λ bytes. IsFilled (state_after file self.now.first (take calls self.now.calls)) fill bytes) }
+        ensures { IfOk result (λ bytes. IsFilled
+            (state_after file self.now.first (take calls self.now.calls)) fill bytes) }
     {
         let replay = self.journal.replay(self.alloc, calls, first, file)?;
         Ok(replay.filled(fill))
@@ -230,7 +241,8 @@ impl Recorder {
     pub fn image(&self, calls: usize, fill: Option<u8>) -> Result<Files, NoMemory>
         requires { calls ≤ length self.now.calls }
         ensures filled { IfOk result (AreFilled self.now.first (take calls self.now.calls) fill) }
-        ensures image { IfOk result (AreImages (image_after self.now.first (take calls self.now.calls))) }
+        ensures image { IfOk result (AreImages
+            (image_after self.now.first (take calls self.now.calls))) }
     {
         Ok(Files {
             s0: self.file_image(calls, 0, self.first.s0.as_slice(), fill)?,

@@ -31,7 +31,11 @@ impl Model for Replay {
 impl Replay {
     /// A file of which a crash leaves what a read gives.
     pub fn new(alloc: Global, bytes: &[u8]) -> Result<Replay, NoMemory>
-        ensures { IfOk result (λ r. r ≡ record { bytes = bytes.now; least = length bytes.now; loose = [] }) }
+        ensures { IfOk result (λ r. r ≡ record {
+          bytes = bytes.now;
+          least = length bytes.now;
+          loose = [];
+        }) }
     {
         Ok(Replay {
             bytes: bytes.to_vec(alloc)?,
@@ -70,7 +74,11 @@ impl Replay {
     }
 
     fn sync(&mut self)
-        ensures { self.new ≡ record { bytes = self.old.bytes; least = length self.old.bytes; loose = [] } }
+        ensures { self.new ≡ record {
+          bytes = self.old.bytes;
+          least = length self.old.bytes;
+          loose = [];
+        } }
     {
         self.least = self.bytes.len() as u64;
         self.loose.clear();
@@ -78,7 +86,8 @@ impl Replay {
 
     /// The file of this number after one more call.
     pub fn step(&mut self, file: u8, entry: &Entry, bytes: &[u8]) -> Result<(), NoMemory>
-        ensures { OnOk result ((s : FileState) → Shows s self.old → Shows (after file s (call_of entry.now bytes.now)) self.new) }
+        ensures { OnOk result ((s : FileState) → Shows s self.old
+            → Shows (after file s (call_of entry.now bytes.now)) self.new) }
     {
         match *entry {
             Entry::Written {
@@ -128,7 +137,8 @@ fn is_in_any(ranges: &[(u64, usize)], i: u64) -> bool
 // Puts a byte in the place of each that isn't yet safe.
 fn overwrite(bytes: &mut [u8], least: u64, loose: &[(u64, usize)], byte: u8)
     ensures { (i : ℕ) → i < length bytes.new
-        → slice_index bytes.new i ≡ (if is_loose_at least loose.now i then byte else slice_index bytes.old i) }
+        → slice_index bytes.new i ≡
+        (if is_loose_at least loose.now i then byte else slice_index bytes.old i) }
 {
     for (i, old) in bytes.iter_mut().enumerate() {
         if i as u64 >= least || is_in_any(loose, i as u64) {
@@ -146,7 +156,8 @@ pub fn replayed(
     file: u8,
 ) -> Result<Replay, NoMemory>
     requires { sum_by byte_count entries.now ≤ length bytes.now }
-    ensures { IfOk result (λ r. Shows (fold (after file) (synced first.now) (calls_of entries.now bytes.now)) r) }
+    ensures { IfOk result (λ r. Shows
+        (fold (after file) (synced first.now) (calls_of entries.now bytes.now)) r) }
 {
     let mut replay = Replay::new(alloc, first)?;
     let mut from = 0;

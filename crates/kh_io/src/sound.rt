@@ -38,7 +38,10 @@ impl SoundHost {
         files: Files,
         room: u64,
     ) -> Result<SoundHost, NoMemory>
-        ensures { IfOk result (λ h. h ≡ record { tape = blank input.items files room; past = false }) }
+        ensures { IfOk result (λ h. h ≡ record {
+          tape = blank input.items files room;
+          past = false;
+        }) }
     {
         Ok(SoundHost {
             recorder: Recorder::new(alloc, input, files, room)?,
@@ -64,38 +67,20 @@ impl SoundHost {
     /// that isn't yet safe is as written, or this byte.
     pub fn image(&self, calls: u64, fill: Option<u8>) -> Result<Files, NoMemory>
         requires { calls ≤ length self.now.tape.calls }
-        ensures filled { IfOk result (AreFilled self.now.tape.first (take calls self.now.tape.calls) fill) }
-        ensures image { IfOk result (AreImages (image_after self.now.tape.first (take calls self.now.tape.calls))) }
+        ensures filled { IfOk result (AreFilled self.now.tape.first
+            (take calls self.now.tape.calls) fill) }
+        ensures image { IfOk result (AreImages
+            (image_after self.now.tape.first (take calls self.now.tape.calls))) }
     {
         self.recorder.image(calls as usize, fill)
     }
 }
 
 impl Disk for SoundHost {
-    ghost use Rattle.kh_io.specs.Laws.{sound_seen_is_left, sound_untold, sound_stamp_is, sound_now_since, sound_since_now};
-    ghost use Rattle.kh_io.specs.Sound.{told, sound_image, sound_since, with_call, gone};
+    ghost use Rattle.kh_io.specs.Laws.{sound_seen_is_left, sound_untold, sound_stamp_is, sound_now_since, sound_since_now, now_of};
+    ghost use Rattle.kh_io.specs.Sound.{sound_view, with_call, gone};
 
-    ghost seen = { λ h file. told h (seen_after h.tape.first h.tape.calls file) };
-
-    ghost image = { sound_image };
-
-    ghost moment = { λ h. length h.tape.calls };
-
-    ghost stamp = { λ h. length (given_in h.tape.calls) };
-
-    ghost left_since = { sound_since };
-
-    ghost left = { λ h. told h (left_after h.tape.input h.tape.calls) };
-
-    ghost given = { λ h. told h (given_in h.tape.calls) };
-
-    ghost journal = { λ h. told h h.tape.calls };
-
-    ghost disk_faults = { λ _. 0 };
-
-    ghost read_faults = { λ _. 0 };
-
-    ghost write_faults = { λ _. 0 };
+    ghost view = { sound_view };
 
     ghost seen_is_image = { λ h file bytes lt same. sound_seen_is_left h file bytes same };
 
@@ -105,14 +90,17 @@ impl Disk for SoundHost {
 
     ghost counts_now = { λ h t files le images. sound_now_since h t files le images };
 
-    ghost only_now = { λ h files s left. sound_since_now h files s left };
+    ghost only_now = { λ h files s left. now_of (sound_view h) files s (sound_since_now h files s left) };
 
     fn len(&mut self, file: u8) -> Result<u64, Failed>
         requires { file < 4 }
-        ensures past { IsTrue self.old.past ⊎ (HasRoom self.old.tape 0 → ⊥) → (result ≡ Ok 0) × (self.new ≡ gone self.old) }
+        ensures past { IsTrue self.old.past ⊎ (HasRoom self.old.tape 0 → ⊥) → (result ≡ Ok 0)
+            × (self.new ≡ gone self.old) }
         ensures done { IsFalse self.old.past → HasRoom self.old.tape 0
             → (result ≡ Ok (length (seen_after self.old.tape.first self.old.tape.calls file)))
-            × (self.new ≡ with_call self.old (Len file (Some (length (seen_after self.old.tape.first self.old.tape.calls file))))) }
+            × (self.new ≡ with_call self.old
+            (Len file
+            (Some (length (seen_after self.old.tape.first self.old.tape.calls file))))) }
     {
         if self.past || !self.recorder.fits(0) {
             self.past = true;
@@ -129,12 +117,17 @@ impl Disk for SoundHost {
 
     fn read_at(&mut self, file: u8, at: u64, into: &mut [u8]) -> Result<usize, Failed>
         requires { file < 4 }
-        ensures past { IsTrue self.old.past ⊎ (HasRoom self.old.tape (read_len self.old.tape file at (length into.old)) → ⊥)
+        ensures past { IsTrue self.old.past
+            ⊎ (HasRoom self.old.tape (read_len self.old.tape file at (length into.old)) → ⊥)
             → (result ≡ Ok 0) × (self.new ≡ gone self.old) }
-        ensures done { IsFalse self.old.past → HasRoom self.old.tape (read_len self.old.tape file at (length into.old))
+        ensures done { IsFalse self.old.past
+            → HasRoom self.old.tape (read_len self.old.tape file at (length into.old))
             → (result ≡ Ok (read_len self.old.tape file at (length into.new)))
-            × IsReadAt (seen_after self.old.tape.first self.old.tape.calls file) at (read_len self.old.tape file at (length into.new)) into.new
-            × (self.new ≡ with_call self.old (ReadAt file at (length into.new) (Some (take (read_len self.old.tape file at (length into.new)) into.new)))) }
+            × IsReadAt (seen_after self.old.tape.first self.old.tape.calls file) at
+            (read_len self.old.tape file at (length into.new)) into.new
+            × (self.new ≡ with_call self.old
+            (ReadAt file at (length into.new)
+            (Some (take (read_len self.old.tape file at (length into.new)) into.new)))) }
     {
         let count = read_count(self.recorder.file(file).len(), at, into.len());
         if self.past || !self.recorder.fits(count) {
@@ -147,9 +140,11 @@ impl Disk for SoundHost {
 
     fn write_at(&mut self, file: u8, at: u64, bytes: &[u8]) -> Result<(), Failed>
         requires file { file < 4 }
-        requires start { IsFalse self.old.past → at ≤ length (seen_after self.old.tape.first self.old.tape.calls file) }
+        requires start { IsFalse self.old.past
+            → at ≤ length (seen_after self.old.tape.first self.old.tape.calls file) }
         requires end { at + length bytes.now ≤ 2 ^ 62 }
-        ensures past { IsTrue self.old.past ⊎ (HasRoom self.old.tape (length bytes.now) → ⊥) → (result ≡ Ok tt) × (self.new ≡ gone self.old) }
+        ensures past { IsTrue self.old.past ⊎ (HasRoom self.old.tape (length bytes.now) → ⊥)
+            → (result ≡ Ok tt) × (self.new ≡ gone self.old) }
         ensures done { IsFalse self.old.past → HasRoom self.old.tape (length bytes.now)
             → (result ≡ Ok tt) × (self.new ≡ with_call self.old (WriteAt file at bytes.now true)) }
     {
@@ -163,8 +158,10 @@ impl Disk for SoundHost {
 
     fn cut(&mut self, file: u8, len: u64) -> Result<(), Failed>
         requires file { file < 4 }
-        requires len { IsFalse self.old.past → len ≤ length (seen_after self.old.tape.first self.old.tape.calls file) }
-        ensures past { IsTrue self.old.past ⊎ (HasRoom self.old.tape 0 → ⊥) → (result ≡ Ok tt) × (self.new ≡ gone self.old) }
+        requires len { IsFalse self.old.past
+            → len ≤ length (seen_after self.old.tape.first self.old.tape.calls file) }
+        ensures past { IsTrue self.old.past ⊎ (HasRoom self.old.tape 0 → ⊥) → (result ≡ Ok tt)
+            × (self.new ≡ gone self.old) }
         ensures done { IsFalse self.old.past → HasRoom self.old.tape 0
             → (result ≡ Ok tt) × (self.new ≡ with_call self.old (Cut file len true)) }
     {
@@ -178,7 +175,8 @@ impl Disk for SoundHost {
 
     fn sync(&mut self, file: u8) -> Result<(), Failed>
         requires { file < 4 }
-        ensures past { IsTrue self.old.past ⊎ (HasRoom self.old.tape 0 → ⊥) → (result ≡ Ok tt) × (self.new ≡ gone self.old) }
+        ensures past { IsTrue self.old.past ⊎ (HasRoom self.old.tape 0 → ⊥) → (result ≡ Ok tt)
+            × (self.new ≡ gone self.old) }
         ensures done { IsFalse self.old.past → HasRoom self.old.tape 0
             → (result ≡ Ok tt) × (self.new ≡ with_call self.old (Sync file true)) }
     {
@@ -195,12 +193,18 @@ impl Host for SoundHost {
     ghost use Rattle.kh_io.specs.Sound.{with_call, gone};
 
     fn take(&mut self, into: &mut [u8]) -> Result<usize, Failed>
-        ensures past { IsTrue self.old.past ⊎ (HasRoom self.old.tape (take_len self.old.tape (length into.old)) → ⊥)
+        ensures past { IsTrue self.old.past
+            ⊎ (HasRoom self.old.tape (take_len self.old.tape (length into.old)) → ⊥)
             → (result ≡ Ok 0) × (self.new ≡ gone self.old) }
-        ensures done { IsFalse self.old.past → HasRoom self.old.tape (take_len self.old.tape (length into.old))
+        ensures done { IsFalse self.old.past
+            → HasRoom self.old.tape (take_len self.old.tape (length into.old))
             → (result ≡ Ok (take_len self.old.tape (length into.new)))
-            × (take (take_len self.old.tape (length into.new)) into.new ≡ take (take_len self.old.tape (length into.new)) (left_after self.old.tape.input self.old.tape.calls))
-            × (self.new ≡ with_call self.old (Take (length into.new) (Some (take (take_len self.old.tape (length into.new)) into.new)))) }
+            × (take (take_len self.old.tape (length into.new)) into.new ≡ take
+            (take_len self.old.tape (length into.new))
+            (left_after self.old.tape.input self.old.tape.calls))
+            × (self.new ≡ with_call self.old
+            (Take (length into.new) (Some (take
+            (take_len self.old.tape (length into.new)) into.new)))) }
     {
         let count = into.len().min(self.recorder.left());
         if self.past || !self.recorder.fits(count) {
@@ -215,7 +219,8 @@ impl Host for SoundHost {
         ensures past { IsTrue self.old.past ⊎ (HasRoom self.old.tape (length bytes.now) → ⊥)
             → (result ≡ Ok (length bytes.now)) × (self.new ≡ gone self.old) }
         ensures done { IsFalse self.old.past → HasRoom self.old.tape (length bytes.now)
-            → (result ≡ Ok (length bytes.now)) × (self.new ≡ with_call self.old (Give bytes.now (Some (length bytes.now)))) }
+            → (result ≡ Ok (length bytes.now))
+            × (self.new ≡ with_call self.old (Give bytes.now (Some (length bytes.now)))) }
     {
         if self.past || !self.recorder.fits(bytes.len()) {
             self.past = true;

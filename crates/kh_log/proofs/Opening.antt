@@ -4,9 +4,11 @@ use Rattle.std.specs.Prelude.{IfSome, IfNone, OnOk, Result, Ok, Err}
 use Rattle.kh_io.specs.declared.files.Files.{Files}
 use Rattle.kh_io.specs.Disk.{file_of, put, Torn, IsSafe, Stays}
 use Rattle.kh_io.specs.Told.{Told}
+use Rattle.kh_io.specs.View.{View}
+use Rattle.kh_io.specs.Frames.{OthersStay, Leaves}
 use Rattle.kh_io.proofs.{told_before, told_both}
 use Rattle.kh_log.specs.Records.{open_gate, Content, records_of, log_of, span, IsClosedAt}
-use Rattle.kh_log.specs.Log.{Place, Holds, ImagesAre, moved, begun_at, EndsAt, IsBeforeOrAfter, IsGroup, Appending, Writing, with_records}
+use Rattle.kh_log.specs.Log.{Place, Holds, ImagesAre, moved, begun_at, EndsAt, IsBeforeOrAfter, IsGroup, IsTornOf, MayGainGroup, with_records}
 use Rattle.std.proofs.lemmas.List.{take_all}
 use Rattle.std.proofs.lemmas.Option.{same_Some}
 use Rattle.kh_log.proofs.Records.{span-append, length-front}
@@ -61,23 +63,23 @@ both_put (Some was) b None last gate body within first second = tt
 both_put None None None last gate body within first second = tt
 
 -- what a crash during the first write leaves
-pub during_first : {image : ℕ → List ℕ → Type 0} (file given last n : ℕ) (rs more : List (List ℕ)) → ((was : List ℕ) → image file was → EndsAt last rs was)
-    → (files : Files) (s : ℕ) → Writing file image given (last + 1) n files s → Appending file image given rs more files s
-during_first file given last n rs more ends files s w = record {
-  records = first_left last rs more n ends (file_of files file) (w.was, w.left, w.torn);
+pub during_first : (file last : ℕ) (body : List ℕ) (v : View) (files : Files) (s : ℕ) → Leaves file (IsTornOf (v.image file) (last + 1) (length body)) v files s
+    → Leaves file (MayGainGroup (v.image file) last body) v files s
+during_first file last body v files s w = record {
+  own = λ more group rs ends. first_left last rs more (length body) ends (file_of files file) w.own;
   others = w.others;
   stamp = w.stamp;
 }
 
 -- and during the second
-pub during_second : {image image' : ℕ → List ℕ → Type 0} (file given given' last : ℕ) (rs more : List (List ℕ)) (body : List ℕ) → IsGroup more body
-    → ((was : List ℕ) → image' file was → Staged last rs body was)
-    → ((other : ℕ) → other < 4 → other ≢ file → (left : List ℕ) → image' other left → image other left) → given' ≡ given
-    → (files : Files) (s : ℕ) → Writing file image' given' last 1 files s → Appending file image given rs more files s
-during_second file given given' last rs more body group stage others same files s w = record {
-  records = second_left last rs more body group stage (file_of files file) (w.was, w.left, w.torn);
-  others = λ other below not. others other below not (file_of files other) (w.others other below not);
-  stamp = w.stamp ∙ same;
+pub during_second : (file last : ℕ) (body : List ℕ) (v w : View)
+    → ((rs : List (List ℕ)) → ((was : List ℕ) → v.image file was → EndsAt last rs was) → (was : List ℕ) → w.image file was → Staged last rs body was)
+    → OthersStay file v w → w.stamp ≡ v.stamp → (files : Files) (s : ℕ) → Leaves file (IsTornOf (w.image file) last 1) w files s
+    → Leaves file (MayGainGroup (v.image file) last body) v files s
+during_second file last body v w stage others same files s left = record {
+  own = λ more group rs ends. second_left last rs more body group (stage rs ends) (file_of files file) left.own;
+  others = λ other below not. (others other below not).only (file_of files other) (left.others other below not);
+  stamp = left.stamp ∙ same;
 }
 
 -- what a log found and a closed gate at its end

@@ -3,12 +3,10 @@ use Rattle.std.proofs.Common.{◌≡◌, ℕ, zero, suc, ◌+◌, ◌<◌, ◌�
 use Rattle.std.specs.Prelude.{IfSome, slice_get}
 use Rattle.std.proofs.lemmas.List.{drop_at, take_at, drop-drop}
 use Rattle.std.proofs.lemmas.Bool.{cases_lt}
-use Rattle.kh_io.specs.declared.files.Files.{Files}
 use Rattle.kh_io.specs.Told.{Told, Kept}
-use Rattle.kh_io.specs.Disk.{FilesStay, LeavesOnly}
-use Rattle.kh_io.proofs.{both, images_stay, told_both, told_map}
+use Rattle.kh_io.proofs.{told_both, told_map}
 use Rattle.kh_log.specs.Records.{open_gate, length_of, Content, content_of, content_from, records_of, lacking_in, span, IsClosedAt, IsOpenAt, LacksAt, record_at}
-use Rattle.kh_log.specs.Log.{Place, Holds, passed, EndsAt, Reading}
+use Rattle.kh_log.specs.Log.{Place, Holds, passed, EndsAt}
 use Rattle.kh_log.proofs.Records.{behind_records, length_of-append, Front, with_records, with_records-is, content_of-front, content_of-short, nothing_behind, more_behind, lacking_step, front-append, length-front}
 use Rattle.kh_log.proofs.Append.{ends_at}
 
@@ -90,12 +88,6 @@ walked None (Some y) (Some z) at count after p same o = absurd p
 walked a None (Some z) at count after p same o = absurd o
 walked (Some x) b None at count after p same o = tt
 walked None b None at count after p same o = tt
-
--- reads, one after the other
-pub read_both : {seen seen' : ℕ → Option (List ℕ)} {image image' : ℕ → List ℕ → Type 0} {m0 m1 m2 given given' : ℕ} {past mid since : ℕ → Files → ℕ → Type 0}
-    → FilesStay seen seen' image image' → given' ≡ given → LeavesOnly m0 m1 past mid (Reading image given) → LeavesOnly m1 m2 mid since (Reading image' given')
-    → LeavesOnly m0 m2 past since (Reading image given)
-read_both stay same first second = both first second (λ files s left. record { images = images_stay stay files left.images; stamp = left.stamp ∙ same })
 
 -- the end of a walk, at a closed gate
 pub told_closed : (a b c : Option (List ℕ)) (at count : ℕ) → Told a b (λ was now. (now ≡ was) × Stands at count was) → Told b c (λ was _. IsClosedAt at was)

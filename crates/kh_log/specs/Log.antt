@@ -1,7 +1,7 @@
 -- A log that is open: where it stands in its file, and what an append leaves.
-use Rattle.std.specs.Prelude.{◌≡◌, ◌≢◌, ◌⊎◌, ℕ, ◌+◌, ◌<◌, ◌≤◌, List, [], ◌∷◌, ◌++◌, length, take, Option, None, IfSome}
-use Rattle.kh_io.specs.declared.files.Files.{Files}
-use Rattle.kh_io.specs.Disk.{file_of, put, Torn, AreImages}
+use Rattle.std.specs.Prelude.{◌≡◌, ◌⊎◌, ℕ, ◌+◌, ◌≤◌, List, [], ◌∷◌, ◌++◌, length, take, Option, None, IfSome}
+use Rattle.kh_io.specs.Disk.{put, Torn, IsSafe}
+use Rattle.kh_io.specs.View.{View}
 use Rattle.kh_log.specs.Records.{open_gate, log_of, Content, content_of, records_of, lacking_in, span, IsClosedAt}
 
 -- where a log stands in its file
@@ -70,28 +70,36 @@ with_records last (r ∷ rs) log = put log last (log_of (r ∷ rs))
 abbrev pub IsBeforeOrAfter : (rs more : List (List ℕ)) → List ℕ → Type 0
 IsBeforeOrAfter rs more bytes = EndsAt (span rs) rs bytes ⊎ EndsAt (span (rs ++ more)) (rs ++ more) bytes
 
--- What a crash while records are appended may leave: in the log's file these from before or all of them, each other file as a crash before
--- might have left it, and the stamp as it was.
-pub record Appending (file : ℕ) (image : ℕ → List ℕ → Type 0) (given : ℕ) (rs more : List (List ℕ)) (files : Files) (s : ℕ) : Type 0 where
-  pub records : IsBeforeOrAfter rs more (file_of files file)
-  pub others : (other : ℕ) → other < 4 → other ≢ file → image other (file_of files other)
-  pub stamp : s ≡ given
-
--- What a crash while n bytes are written at a place may leave: of the file any outcome of that write, each other file as a crash before
--- might have left it, and the stamp as it was.
-pub record Writing (file : ℕ) (image : ℕ → List ℕ → Type 0) (given at n : ℕ) (files : Files) (s : ℕ) : Type 0 where
-  pub was : List ℕ
-  pub left : image file was
-  pub torn : Torn at n was (file_of files file)
-  pub others : (other : ℕ) → other < 4 → other ≢ file → image other (file_of files other)
-  pub stamp : s ≡ given
-
 -- these bytes are what stands behind the first gate of the log of these records
 pub record IsGroup (rs : List (List ℕ)) (bytes : List ℕ) : Type 0 where
   pub are : rs ≡ records_of (open_gate ∷ bytes)
   pub log : log_of rs ≡ open_gate ∷ bytes
 
--- what a crash while a file is read may leave: what it might have left before, with the stamp as it was
-pub record Reading (image : ℕ → List ℕ → Type 0) (given : ℕ) (files : Files) (s : ℕ) : Type 0 where
-  pub images : AreImages image files
-  pub stamp : s ≡ given
+-- Whichever records alone the images of a file might have held up to this gate, behind them stand these or none.
+abbrev pub MayGain : (image : List ℕ → Type 0) (last : ℕ) (more : List (List ℕ)) → List ℕ → Type 0
+MayGain image last more bytes =
+    (rs : List (List ℕ)) → ((was : List ℕ) → image was → EndsAt last rs was) → IsBeforeOrAfter rs more bytes
+
+-- the same of the records that are packed so
+abbrev pub MayGainGroup : (image : List ℕ → Type 0) (last : ℕ) (group : List ℕ) → List ℕ → Type 0
+MayGainGroup image last group bytes = (more : List (List ℕ)) → IsGroup more group → MayGain image last more bytes
+
+-- what a write of n bytes at a place may make of what a crash might have left of a file
+abbrev pub IsTornOf : (image : List ℕ → Type 0) (at n : ℕ) → List ℕ → Type 0
+IsTornOf image at n bytes = (was : List ℕ) × image was × Torn at n was bytes
+
+-- The log may be appended to: all its records were read, and in each image of its file the gate behind the last is closed.
+pub record IsReady (log : Place) (v : View) : Type 0 where
+  pub all_read : log.read ≡ log.records
+  pub found : IfSome (v.seen log.file) (Holds log)
+  pub closed : ImagesAre (v.seen log.file) (v.image log.file) (IsClosedAt log.last)
+
+-- A crash leaves of the file what a read gives, and that is the log that stands so.
+pub record IsSettled (file : ℕ) (log : Place) (v : View) : Type 0 where
+  pub safe : IsSafe (v.seen file) (v.image file)
+  pub found : IfSome (v.seen file) (Holds log)
+
+-- no record was left to be read
+pub record AtEnd (old new : Place) : Type 0 where
+  pub all_read : old.read ≡ old.records
+  pub same : new ≡ old

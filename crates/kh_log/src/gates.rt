@@ -1,11 +1,9 @@
 //! The gates of a file, one after the other.
-ghost use Rattle.std.specs.Prelude.{◌≡◌, ◌≤◌, ◌<◌, ◌+◌, ◌-◌, ◌*◌, ◌^◌, ℕ, suc, List, length, take, drop, Option, None, Some, IfSome, IfNone, IfOk, OnOk, IsErrOf};
-ghost use Rattle.kh_io.specs.Call.{ReadAt};
-ghost use Rattle.kh_io.specs.Told.{Told, Kept, Gains, Extends, Rose};
-ghost use Rattle.kh_io.specs.Disk.{FilesStay, LeavesOnly, IsReadAt};
+ghost use Rattle.std.specs.Prelude.{◌≡◌, ◌≤◌, ◌<◌, ◌+◌, ◌-◌, ◌*◌, ◌^◌, ℕ, List, length, take, drop, None, Some, IfSome, IfNone, IfOk, IsErrOf};
+ghost use Rattle.kh_io.specs.Disk.{IsReadAt};
+ghost use Rattle.kh_io.specs.Frames.{FileTold, Asks, DiskCause};
 ghost use Rattle.kh_log.specs.Records.{length_of, lacking_in, records_of, span, IsClosedAt, IsOpenAt, LacksAt, record_at};
-ghost use Rattle.kh_log.specs.Log.{EndsAt, Reading};
-ghost use Rattle.kh_log.specs.Calls.{AreMade, FailAmong, gate_reads, open_calls, record_reads};
+ghost use Rattle.kh_log.specs.Log.{EndsAt};
 
 use crate::{LogError, OPEN};
 use byteorder::{BigEndian, ByteOrder};
@@ -24,24 +22,20 @@ pub(crate) fn gate_behind<D: Disk>(
 ) -> Result<Option<u64>, LogError>
     requires file { file < 4 }
     requires within { at < len }
-    requires len { IfSome (D.seen disk.old file) (λ bytes. length bytes ≡ len) }
-    ensures open { IfOk result (λ n. IfSome n (λ next. Told (D.seen disk.old file) (D.seen disk.new file) (λ was _. IsOpenAt at next was))) }
+    requires len { IfSome ((D.view disk.old).seen file) (λ bytes. length bytes ≡ len) }
+    ensures open { IfOk result (λ n. IfSome n
+        (λ next. FileTold file (D.view disk.old) (D.view disk.new)
+        (λ was _. IsOpenAt at next was))) }
     ensures on { IfOk result (λ n. IfSome n (λ next. (at + 5 ≤ next) × (next < len))) }
-    ensures closed { IfOk result (λ n. IfNone n (Told (D.seen disk.old file) (D.seen disk.new file) (λ was _. IsClosedAt at was))) }
+    ensures closed { IfOk result (λ n. IfNone n
+        (FileTold file (D.view disk.old) (D.view disk.new) (λ was _. IsClosedAt at was))) }
     ensures lacks { (o : ℕ) → IsErrOf result (LogError.NotALog o)
-        → (o ≡ at + 1) × Told (D.seen disk.old file) (D.seen disk.new file) (λ was _. LacksAt at was) }
+        → (o ≡ at + 1) × FileTold file (D.view disk.old) (D.view disk.new)
+        (λ was _. LacksAt at was) }
     ensures enough_memory { IsErrOf result LogError.NoMemory → ⊥ }
-    ensures files { FilesStay (D.seen disk.old) (D.seen disk.new) (D.image disk.old) (D.image disk.new) }
-    ensures any_moment { LeavesOnly (D.moment disk.old) (D.moment disk.new) (D.left_since disk.old) (D.left_since disk.new) (Reading (D.image disk.old) (D.stamp disk.old)) }
-    ensures fault { IsErrOf result LogError.DiskFault → Rose (D.disk_faults disk.old) (D.disk_faults disk.new) }
-    ensures no_fault { (IsErrOf result LogError.DiskFault → ⊥) → D.disk_faults disk.new ≡ D.disk_faults disk.old }
-    ensures faults_stand { D.disk_faults disk.old ≤ D.disk_faults disk.new }
-    ensures stamp { D.stamp disk.new ≡ D.stamp disk.old }
-    ensures input { Kept (D.left disk.old) (D.left disk.new) }
-    ensures sink { Kept (D.given disk.old) (D.given disk.new) }
-    ensures read_faults { D.read_faults disk.new ≡ D.read_faults disk.old }
-    ensures write_faults { D.write_faults disk.new ≡ D.write_faults disk.old }
-    ensures call { (bytes : Option (List ℕ)) × Gains (D.journal disk.old) (D.journal disk.new) (ReadAt file at 5 bytes) × (IsErrOf result LogError.DiskFault → bytes ≡ None) }
+    ensures asks { Asks (D.view disk.old) (D.view disk.new) }
+    ensures cause { DiskCause (IsErrOf result LogError.DiskFault) (D.view disk.old)
+        (D.view disk.new) }
 {
     let mut header = [0u8; HEADER];
     let count = disk.read_at(file, at, &mut header)?;
@@ -52,11 +46,16 @@ pub(crate) fn gate_behind<D: Disk>(
 fn next_gate(at: u64, len: u64, header: &[u8], count: usize) -> Result<Option<u64>, LogError>
     requires within { at < len }
     requires header { length header.now ≡ 5 }
-    ensures open { IfOk result (λ n. IfSome n (λ next. (bytes : List ℕ) → length bytes ≡ len → IsReadAt bytes at count header.now → IsOpenAt at next bytes)) }
+    ensures open { IfOk result (λ n. IfSome n
+        (λ next. (bytes : List ℕ) → length bytes ≡ len → IsReadAt bytes at count header.now
+        → IsOpenAt at next bytes)) }
     ensures on { IfOk result (λ n. IfSome n (λ next. (at + 5 ≤ next) × (next < len))) }
-    ensures closed { IfOk result (λ n. IfNone n ((bytes : List ℕ) → length bytes ≡ len → IsReadAt bytes at count header.now → IsClosedAt at bytes)) }
+    ensures closed { IfOk result (λ n. IfNone n
+        ((bytes : List ℕ) → length bytes ≡ len → IsReadAt bytes at count header.now
+        → IsClosedAt at bytes)) }
     ensures lacks { (o : ℕ) → IsErrOf result (LogError.NotALog o)
-        → (o ≡ at + 1) × ((bytes : List ℕ) → length bytes ≡ len → IsReadAt bytes at count header.now → LacksAt at bytes) }
+        → (o ≡ at + 1) × ((bytes : List ℕ) → length bytes ≡ len → IsReadAt bytes at count header.now
+        → LacksAt at bytes) }
     ensures no_other { (e : LogError) → IsErrOf result e → e ≡ LogError.NotALog (at + 1) }
 {
     if count == 0 || header[0] != OPEN {
@@ -86,27 +85,17 @@ fn record_length(bytes: &[u8]) -> u64
 pub(crate) fn last_gate<D: Disk>(disk: &mut D, file: u8, len: u64) -> Result<(u64, u64), LogError>
     requires file { file < 4 }
     requires some { 2 ≤ len }
-    requires len { IfSome (D.seen disk.old file) (λ bytes. length bytes ≡ len) }
-    ensures last { IfOk result (λ r. Told (D.seen disk.old file) (D.seen disk.new file) (λ was _. EndsAt r.1 (records_of was) was × (r.0 ≡ length (records_of was)))) }
+    requires len { IfSome ((D.view disk.old).seen file) (λ bytes. length bytes ≡ len) }
+    ensures last { IfOk result (λ r. FileTold file (D.view disk.old) (D.view disk.new)
+        (λ was _. EndsAt r.1 (records_of was) was × (r.0 ≡ length (records_of was)))) }
     ensures bound { IfOk result (λ r. 5 * r.0 ≤ r.1) }
     ensures fits { IfOk result (λ r. r.1 < 2 ^ 64 - 1) }
-    ensures lacks { (o : ℕ) → IsErrOf result (LogError.NotALog o) → Told (D.seen disk.old file) (D.seen disk.new file) (λ was _. lacking_in was ≡ Some o) }
+    ensures lacks { (o : ℕ) → IsErrOf result (LogError.NotALog o)
+        → FileTold file (D.view disk.old) (D.view disk.new) (λ was _. lacking_in was ≡ Some o) }
     ensures enough_memory { IsErrOf result LogError.NoMemory → ⊥ }
-    ensures files { FilesStay (D.seen disk.old) (D.seen disk.new) (D.image disk.old) (D.image disk.new) }
-    ensures any_moment { LeavesOnly (D.moment disk.old) (D.moment disk.new) (D.left_since disk.old) (D.left_since disk.new) (Reading (D.image disk.old) (D.stamp disk.old)) }
-    ensures fault { IsErrOf result LogError.DiskFault → Rose (D.disk_faults disk.old) (D.disk_faults disk.new) }
-    ensures no_fault { (IsErrOf result LogError.DiskFault → ⊥) → D.disk_faults disk.new ≡ D.disk_faults disk.old }
-    ensures faults_stand { D.disk_faults disk.old ≤ D.disk_faults disk.new }
-    ensures stamp { D.stamp disk.new ≡ D.stamp disk.old }
-    ensures input { Kept (D.left disk.old) (D.left disk.new) }
-    ensures sink { Kept (D.given disk.old) (D.given disk.new) }
-    ensures read_faults { D.read_faults disk.new ≡ D.read_faults disk.old }
-    ensures write_faults { D.write_faults disk.new ≡ D.write_faults disk.old }
-    ensures calls { OnOk result (Told (D.seen disk.old file) (D.seen disk.new file) (λ was _. Extends (D.journal disk.old) (D.journal disk.new) (AreMade (gate_reads file (records_of was) (suc (length (records_of was))))))) }
-    ensures calls_lacking { (o : ℕ) → IsErrOf result (LogError.NotALog o)
-        → Told (D.seen disk.old file) (D.seen disk.new file) (λ was _. Extends (D.journal disk.old) (D.journal disk.new) (AreMade (gate_reads file (records_of was) (suc (length (records_of was)))))) }
-    ensures calls_at_fault { IsErrOf result LogError.DiskFault
-        → Told (D.seen disk.old file) (D.seen disk.new file) (λ was _. Extends (D.journal disk.old) (D.journal disk.new) (FailAmong (gate_reads file (records_of was) (suc (length (records_of was)))))) }
+    ensures asks { Asks (D.view disk.old) (D.view disk.new) }
+    ensures cause { DiskCause (IsErrOf result LogError.DiskFault) (D.view disk.old)
+        (D.view disk.new) }
 {
     let mut count = 0;
     let mut at = 0;
@@ -120,28 +109,19 @@ pub(crate) fn last_gate<D: Disk>(disk: &mut D, file: u8, len: u64) -> Result<(u6
 /// How many records a file has, and the place of the gate behind the last.
 pub(crate) fn count_records<D: Disk>(disk: &mut D, file: u8) -> Result<(u64, u64), LogError>
     requires { file < 4 }
-    ensures last { IfOk result (λ r. Told (D.seen disk.old file) (D.seen disk.new file)
-        (λ was _. (lacking_in was ≡ None) × (r.1 ≡ span (records_of was)) × (r.0 ≡ length (records_of was)))) }
-    ensures closed { IfOk result (λ r. Told (D.seen disk.old file) (D.seen disk.new file) (λ was _. 2 ≤ length was → IsClosedAt r.1 was)) }
+    ensures last { IfOk result (λ r. FileTold file (D.view disk.old) (D.view disk.new)
+        (λ was _. (lacking_in was ≡ None) × (r.1 ≡ span (records_of was))
+        × (r.0 ≡ length (records_of was)))) }
+    ensures closed { IfOk result (λ r. FileTold file (D.view disk.old) (D.view disk.new)
+        (λ was _. 2 ≤ length was → IsClosedAt r.1 was)) }
     ensures bound { IfOk result (λ r. 5 * r.0 ≤ r.1) }
     ensures fits { IfOk result (λ r. r.1 < 2 ^ 64 - 1) }
-    ensures lacks { (o : ℕ) → IsErrOf result (LogError.NotALog o) → Told (D.seen disk.old file) (D.seen disk.new file) (λ was _. lacking_in was ≡ Some o) }
+    ensures lacks { (o : ℕ) → IsErrOf result (LogError.NotALog o)
+        → FileTold file (D.view disk.old) (D.view disk.new) (λ was _. lacking_in was ≡ Some o) }
     ensures enough_memory { IsErrOf result LogError.NoMemory → ⊥ }
-    ensures files { FilesStay (D.seen disk.old) (D.seen disk.new) (D.image disk.old) (D.image disk.new) }
-    ensures any_moment { LeavesOnly (D.moment disk.old) (D.moment disk.new) (D.left_since disk.old) (D.left_since disk.new) (Reading (D.image disk.old) (D.stamp disk.old)) }
-    ensures fault { IsErrOf result LogError.DiskFault → Rose (D.disk_faults disk.old) (D.disk_faults disk.new) }
-    ensures no_fault { (IsErrOf result LogError.DiskFault → ⊥) → D.disk_faults disk.new ≡ D.disk_faults disk.old }
-    ensures faults_stand { D.disk_faults disk.old ≤ D.disk_faults disk.new }
-    ensures stamp { D.stamp disk.new ≡ D.stamp disk.old }
-    ensures input { Kept (D.left disk.old) (D.left disk.new) }
-    ensures sink { Kept (D.given disk.old) (D.given disk.new) }
-    ensures read_faults { D.read_faults disk.new ≡ D.read_faults disk.old }
-    ensures write_faults { D.write_faults disk.new ≡ D.write_faults disk.old }
-    ensures calls { OnOk result (Told (D.seen disk.old file) (D.seen disk.new file) (λ was _. Extends (D.journal disk.old) (D.journal disk.new) (AreMade (open_calls file was)))) }
-    ensures calls_lacking { (o : ℕ) → IsErrOf result (LogError.NotALog o)
-        → Told (D.seen disk.old file) (D.seen disk.new file) (λ was _. Extends (D.journal disk.old) (D.journal disk.new) (AreMade (open_calls file was))) }
-    ensures calls_at_fault { IsErrOf result LogError.DiskFault
-        → Told (D.seen disk.old file) (D.seen disk.new file) (λ was _. Extends (D.journal disk.old) (D.journal disk.new) (FailAmong (open_calls file was))) }
+    ensures asks { Asks (D.view disk.old) (D.view disk.new) }
+    ensures cause { DiskCause (IsErrOf result LogError.DiskFault) (D.view disk.old)
+        (D.view disk.new) }
 {
     let len = disk.len(file)?;
     if len < 2 {
@@ -161,24 +141,16 @@ pub(crate) fn record_bytes<D: Disk>(
     requires file { file < 4 }
     requires within { at ≤ last }
     requires fits { last < 2 ^ 64 - 1 }
-    ensures bytes { IfOk result (λ bytes. Told (D.seen disk.old file) (D.seen disk.new file)
-        (λ was _. (after : ℕ) → IsOpenAt at after was → after ≤ last → bytes.items ≡ record_at at was)) }
+    ensures bytes { IfOk result (λ bytes. FileTold file (D.view disk.old) (D.view disk.new)
+        (λ was _. (after : ℕ) → IsOpenAt at after was → after ≤ last
+        → bytes.items ≡ record_at at was)) }
     ensures bound { IfOk result (λ bytes. at + 5 + length bytes.items ≤ last) }
     ensures lacks { (o : ℕ) → IsErrOf result (LogError.NotALog o)
-        → Told (D.seen disk.old file) (D.seen disk.new file) (λ was _. (after : ℕ) → IsOpenAt at after was → after ≤ last → ⊥) }
-    ensures files { FilesStay (D.seen disk.old) (D.seen disk.new) (D.image disk.old) (D.image disk.new) }
-    ensures any_moment { LeavesOnly (D.moment disk.old) (D.moment disk.new) (D.left_since disk.old) (D.left_since disk.new) (Reading (D.image disk.old) (D.stamp disk.old)) }
-    ensures fault { IsErrOf result LogError.DiskFault → Rose (D.disk_faults disk.old) (D.disk_faults disk.new) }
-    ensures no_fault { (IsErrOf result LogError.DiskFault → ⊥) → D.disk_faults disk.new ≡ D.disk_faults disk.old }
-    ensures faults_stand { D.disk_faults disk.old ≤ D.disk_faults disk.new }
-    ensures stamp { D.stamp disk.new ≡ D.stamp disk.old }
-    ensures input { Kept (D.left disk.old) (D.left disk.new) }
-    ensures sink { Kept (D.given disk.old) (D.given disk.new) }
-    ensures read_faults { D.read_faults disk.new ≡ D.read_faults disk.old }
-    ensures write_faults { D.write_faults disk.new ≡ D.write_faults disk.old }
-    ensures calls { IfOk result (λ bytes. Extends (D.journal disk.old) (D.journal disk.new) (AreMade (record_reads file at (length bytes.items)))) }
-    ensures calls_at_fault { IsErrOf result LogError.DiskFault → Told (D.seen disk.old file) (D.seen disk.new file)
-        (λ was _. Extends (D.journal disk.old) (D.journal disk.new) (FailAmong (record_reads file at (length_of (drop (at + 1) was))))) }
+        → FileTold file (D.view disk.old) (D.view disk.new)
+        (λ was _. (after : ℕ) → IsOpenAt at after was → after ≤ last → ⊥) }
+    ensures asks { Asks (D.view disk.old) (D.view disk.new) }
+    ensures cause { DiskCause (IsErrOf result LogError.DiskFault) (D.view disk.old)
+        (D.view disk.new) }
 {
     let length = length_behind(disk, file, at, last)?;
     bytes_at(alloc, disk, file, at, length as usize)
@@ -189,22 +161,16 @@ fn length_behind<D: Disk>(disk: &mut D, file: u8, at: u64, last: u64) -> Result<
     requires file { file < 4 }
     requires within { at ≤ last }
     requires fits { last < 2 ^ 64 - 1 }
-    ensures length { IfOk result (λ n. Told (D.seen disk.old file) (D.seen disk.new file) (λ was _. n ≡ length_of (drop (at + 1) was))) }
+    ensures length { IfOk result (λ n. FileTold file (D.view disk.old) (D.view disk.new)
+        (λ was _. n ≡ length_of (drop (at + 1) was))) }
     ensures bound { IfOk result (λ n. at + 5 + n ≤ last) }
     ensures small { IfOk result (λ n. n < 2 ^ 32) }
     ensures lacks { (o : ℕ) → IsErrOf result (LogError.NotALog o)
-        → Told (D.seen disk.old file) (D.seen disk.new file) (λ was _. (after : ℕ) → IsOpenAt at after was → after ≤ last → ⊥) }
-    ensures files { FilesStay (D.seen disk.old) (D.seen disk.new) (D.image disk.old) (D.image disk.new) }
-    ensures any_moment { LeavesOnly (D.moment disk.old) (D.moment disk.new) (D.left_since disk.old) (D.left_since disk.new) (Reading (D.image disk.old) (D.stamp disk.old)) }
-    ensures fault { IsErrOf result LogError.DiskFault → Rose (D.disk_faults disk.old) (D.disk_faults disk.new) }
-    ensures no_fault { (IsErrOf result LogError.DiskFault → ⊥) → D.disk_faults disk.new ≡ D.disk_faults disk.old }
-    ensures faults_stand { D.disk_faults disk.old ≤ D.disk_faults disk.new }
-    ensures stamp { D.stamp disk.new ≡ D.stamp disk.old }
-    ensures input { Kept (D.left disk.old) (D.left disk.new) }
-    ensures sink { Kept (D.given disk.old) (D.given disk.new) }
-    ensures read_faults { D.read_faults disk.new ≡ D.read_faults disk.old }
-    ensures write_faults { D.write_faults disk.new ≡ D.write_faults disk.old }
-    ensures call { (bytes : Option (List ℕ)) × Gains (D.journal disk.old) (D.journal disk.new) (ReadAt file (at + 1) 4 bytes) × (IsErrOf result LogError.DiskFault → bytes ≡ None) }
+        → FileTold file (D.view disk.old) (D.view disk.new)
+        (λ was _. (after : ℕ) → IsOpenAt at after was → after ≤ last → ⊥) }
+    ensures asks { Asks (D.view disk.old) (D.view disk.new) }
+    ensures cause { DiskCause (IsErrOf result LogError.DiskFault) (D.view disk.old)
+        (D.view disk.new) }
 {
     let mut header = [0u8; 4];
     let count = disk.read_at(file, at + 1, &mut header)?;
@@ -228,22 +194,14 @@ fn bytes_at<D: Disk>(
 ) -> Result<Vec<u8>, LogError>
     requires file { file < 4 }
     requires fits { at + 5 + count < 2 ^ 64 }
-    ensures bytes { IfOk result (λ bytes. Told (D.seen disk.old file) (D.seen disk.new file) (λ was _. bytes.items ≡ take count (drop (at + 5) was))) }
+    ensures bytes { IfOk result (λ bytes. FileTold file (D.view disk.old) (D.view disk.new)
+        (λ was _. bytes.items ≡ take count (drop (at + 5) was))) }
     ensures length { IfOk result (λ bytes. length bytes.items ≡ count) }
     ensures lacks { (o : ℕ) → IsErrOf result (LogError.NotALog o)
-        → Told (D.seen disk.old file) (D.seen disk.new file) (λ was _. length was < at + 5 + count) }
-    ensures files { FilesStay (D.seen disk.old) (D.seen disk.new) (D.image disk.old) (D.image disk.new) }
-    ensures any_moment { LeavesOnly (D.moment disk.old) (D.moment disk.new) (D.left_since disk.old) (D.left_since disk.new) (Reading (D.image disk.old) (D.stamp disk.old)) }
-    ensures fault { IsErrOf result LogError.DiskFault → Rose (D.disk_faults disk.old) (D.disk_faults disk.new) }
-    ensures no_fault { (IsErrOf result LogError.DiskFault → ⊥) → D.disk_faults disk.new ≡ D.disk_faults disk.old }
-    ensures faults_stand { D.disk_faults disk.old ≤ D.disk_faults disk.new }
-    ensures stamp { D.stamp disk.new ≡ D.stamp disk.old }
-    ensures input { Kept (D.left disk.old) (D.left disk.new) }
-    ensures sink { Kept (D.given disk.old) (D.given disk.new) }
-    ensures read_faults { D.read_faults disk.new ≡ D.read_faults disk.old }
-    ensures write_faults { D.write_faults disk.new ≡ D.write_faults disk.old }
-    ensures call { OnOk result ((bytes : Option (List ℕ)) × Gains (D.journal disk.old) (D.journal disk.new) (ReadAt file (at + 5) count bytes)) }
-    ensures call_at_fault { IsErrOf result LogError.DiskFault → Gains (D.journal disk.old) (D.journal disk.new) (ReadAt file (at + 5) count None) }
+        → FileTold file (D.view disk.old) (D.view disk.new) (λ was _. length was < at + 5 + count) }
+    ensures asks { Asks (D.view disk.old) (D.view disk.new) }
+    ensures cause { DiskCause (IsErrOf result LogError.DiskFault) (D.view disk.old)
+        (D.view disk.new) }
 {
     let mut bytes = vec![in alloc; 0u8; count]?;
     let found = disk.read_at(file, at + 5, &mut bytes)?;

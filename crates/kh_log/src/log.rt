@@ -1,15 +1,13 @@
 //! The log.
-ghost use Rattle.std.specs.Prelude.{◌≡◌, ◌≤◌, ◌<◌, ◌+◌, ◌^◌, ◌++◌, ℕ, List, [], length, drop, slice_get, Some, IfSome, IfNone, IfOk, OnOk, OnErr, IsErrOf};
-ghost use Rattle.kh_io.specs.Told.{Told, Kept, Extends, Rose};
-ghost use Rattle.kh_io.specs.Disk.{FilesStay, OthersStay, IsSafe, LeavesOnly};
-ghost use Rattle.kh_log.specs.Records.{length_of, records_of, lacking_in, log_of, IsClosedAt};
-ghost use Rattle.kh_log.specs.Log.{Place, Holds, EndsAt, IsBeforeOrAfter, Appending, Reading, ImagesAre, moved, passed, begun_at, with_records};
-ghost use Rattle.kh_log.specs.Calls.{Grows, AreMade, FailAmong, open_calls, record_reads};
+ghost use Rattle.std.specs.Prelude.{◌≡◌, ◌≤◌, ◌<◌, ◌+◌, ◌^◌, ◌++◌, ℕ, List, [], length, slice_get, Some, IfSome, IfNone, IfOk, OnOk, OnErr, IsErr, IsErrOf};
+ghost use Rattle.kh_io.specs.Frames.{FileTold, Asks, Leaves, WritesFile, DiskCause};
+ghost use Rattle.kh_log.specs.Records.{records_of, lacking_in, log_of, IsClosedAt};
+ghost use Rattle.kh_log.specs.Log.{Place, Holds, EndsAt, MayGain, IsReady, IsSettled, AtEnd, moved, passed, begun_at, with_records};
 
 use crate::durable::open_behind;
 use crate::gates::{count_records, record_bytes};
 use crate::{LogError, Record};
-use kh_io::Host;
+use kh_io::{Failed, Host};
 use std::alloc::Global;
 use std::marker::Model;
 
@@ -79,26 +77,16 @@ impl Log {
         requires { file < 4 }
         ensures file { IfOk result (λ log. log.file ≡ file) }
         ensures none_read { IfOk result (λ log. log.read ≡ 0) }
-        ensures found { IfOk result (λ log. Told (H.seen host.old file) (H.seen host.new file) (λ was _. Holds log was)) }
-        ensures closed { IfOk result (λ log. Told (H.seen host.old file) (H.seen host.new file) (λ was _. 2 ≤ length was → IsClosedAt log.last was)) }
-        ensures lacking { (o : ℕ) → IsErrOf result (LogError.NotALog o) → Told (H.seen host.old file) (H.seen host.new file) (λ was _. lacking_in was ≡ Some o) }
+        ensures found { IfOk result (λ log. FileTold file (H.view host.old) (H.view host.new)
+            (λ was _. Holds log was)) }
+        ensures closed { IfOk result (λ log. FileTold file (H.view host.old) (H.view host.new)
+            (λ was _. 2 ≤ length was → IsClosedAt log.last was)) }
+        ensures lacking { (o : ℕ) → IsErrOf result (LogError.NotALog o)
+            → FileTold file (H.view host.old) (H.view host.new) (λ was _. lacking_in was ≡ Some o) }
         ensures enough_memory { IsErrOf result LogError.NoMemory → ⊥ }
-        ensures files { FilesStay (H.seen host.old) (H.seen host.new) (H.image host.old) (H.image host.new) }
-        ensures any_moment { LeavesOnly (H.moment host.old) (H.moment host.new) (H.left_since host.old) (H.left_since host.new) (Reading (H.image host.old) (H.stamp host.old)) }
-        ensures fault { IsErrOf result LogError.DiskFault → Rose (H.disk_faults host.old) (H.disk_faults host.new) }
-        ensures no_fault { (IsErrOf result LogError.DiskFault → ⊥) → H.disk_faults host.new ≡ H.disk_faults host.old }
-        ensures faults_stand { H.disk_faults host.old ≤ H.disk_faults host.new }
-        ensures stamp { H.stamp host.new ≡ H.stamp host.old }
-        ensures input { Kept (H.left host.old) (H.left host.new) }
-        ensures sink { Kept (H.given host.old) (H.given host.new) }
-        ensures read_faults { H.read_faults host.new ≡ H.read_faults host.old }
-        ensures write_faults { H.write_faults host.new ≡ H.write_faults host.old }
-        // It asks for the length of the file and reads the gates, each with the length behind it.
-        ensures calls { OnOk result (Told (H.seen host.old file) (H.seen host.new file) (λ was _. Extends (H.journal host.old) (H.journal host.new) (AreMade (open_calls file was)))) }
-        ensures calls_lacking { (o : ℕ) → IsErrOf result (LogError.NotALog o)
-            → Told (H.seen host.old file) (H.seen host.new file) (λ was _. Extends (H.journal host.old) (H.journal host.new) (AreMade (open_calls file was))) }
-        ensures calls_at_fault { IsErrOf result LogError.DiskFault
-            → Told (H.seen host.old file) (H.seen host.new file) (λ was _. Extends (H.journal host.old) (H.journal host.new) (FailAmong (open_calls file was))) }
+        ensures asks { Asks (H.view host.old) (H.view host.new) }
+        ensures cause { DiskCause (IsErrOf result LogError.DiskFault) (H.view host.old)
+            (H.view host.new) }
     {
         let (records, last) = count_records(host, file)?;
         Ok(Log {
@@ -130,32 +118,22 @@ impl Log {
         alloc: Global,
         host: &mut H,
     ) -> Result<Option<Vec<u8>>, LogError>
-        requires found { IfSome (H.seen host.old self.old.file) (Holds self.old) }
-        ensures next { IfOk result (λ r. IfSome r (λ bytes. Told (H.seen host.old self.old.file) (H.seen host.new self.old.file)
+        requires found { IfSome ((H.view host.old).seen self.old.file) (Holds self.old) }
+        ensures next { IfOk result (λ r. IfSome r
+            (λ bytes. FileTold self.old.file (H.view host.old) (H.view host.new)
             (λ was _. slice_get (records_of was) self.old.read ≡ Some bytes.items))) }
         ensures some { IfOk result (λ r. IfSome r (λ _. self.old.read < self.old.records)) }
-        ensures passed { IfOk result (λ r. IfSome r (λ bytes. self.new ≡ passed self.old bytes.items)) }
-        ensures none { IfOk result (λ r. IfNone r (self.old.read ≡ self.old.records)) }
-        ensures at_end { IfOk result (λ r. IfNone r (self.new ≡ self.old)) }
+        ensures passed { IfOk result (λ r. IfSome r
+            (λ bytes. self.new ≡ passed self.old bytes.items)) }
+        ensures ended { IfOk result (λ r. IfNone r (AtEnd self.old self.new)) }
         ensures failed { OnErr result (self.new ≡ self.old) }
-        ensures holds { IfSome (H.seen host.new self.old.file) (Holds self.new) }
+        ensures holds { IfSome ((H.view host.new).seen self.old.file) (Holds self.new) }
         // What `open` found lacks nothing.
-        ensures lacking { (o : ℕ) → IsErrOf result (LogError.NotALog o) → Told (H.seen host.old self.old.file) (H.seen host.new self.old.file) (λ _ _. ⊥) }
-        ensures files { FilesStay (H.seen host.old) (H.seen host.new) (H.image host.old) (H.image host.new) }
-        ensures any_moment { LeavesOnly (H.moment host.old) (H.moment host.new) (H.left_since host.old) (H.left_since host.new) (Reading (H.image host.old) (H.stamp host.old)) }
-        ensures fault { IsErrOf result LogError.DiskFault → Rose (H.disk_faults host.old) (H.disk_faults host.new) }
-        ensures no_fault { (IsErrOf result LogError.DiskFault → ⊥) → H.disk_faults host.new ≡ H.disk_faults host.old }
-        ensures faults_stand { H.disk_faults host.old ≤ H.disk_faults host.new }
-        ensures stamp { H.stamp host.new ≡ H.stamp host.old }
-        ensures input { Kept (H.left host.old) (H.left host.new) }
-        ensures sink { Kept (H.given host.old) (H.given host.new) }
-        ensures read_faults { H.read_faults host.new ≡ H.read_faults host.old }
-        ensures write_faults { H.write_faults host.new ≡ H.write_faults host.old }
-        // It reads the length of the record and its bytes.
-        ensures calls { IfOk result (λ r. IfSome r (λ bytes. Extends (H.journal host.old) (H.journal host.new) (AreMade (record_reads self.old.file self.old.next (length bytes.items))))) }
-        ensures no_calls { IfOk result (λ r. IfNone r (Extends (H.journal host.old) (H.journal host.new) (AreMade []))) }
-        ensures calls_at_fault { IsErrOf result LogError.DiskFault → Told (H.seen host.old self.old.file) (H.seen host.new self.old.file)
-            (λ was _. Extends (H.journal host.old) (H.journal host.new) (FailAmong (record_reads self.old.file self.old.next (length_of (drop (self.old.next + 1) was))))) }
+        ensures lacking { (o : ℕ) → IsErrOf result (LogError.NotALog o)
+            → FileTold self.old.file (H.view host.old) (H.view host.new) (λ _ _. ⊥) }
+        ensures asks { Asks (H.view host.old) (H.view host.new) }
+        ensures cause { DiskCause (IsErrOf result LogError.DiskFault) (H.view host.old)
+            (H.view host.new) }
     {
         if self.read == self.records {
             return Ok(None);
@@ -167,36 +145,23 @@ impl Log {
     }
 
     /// Adds records behind the last. At `Ok` each crash from then on leaves them; at `DiskFault` the log may no longer be used.
-    pub fn append<H: Host>(&mut self, host: &mut H, r: &Record) -> Result<(), LogError>
-        requires all_read { self.old.read ≡ self.old.records }
+    pub fn append<H: Host>(&mut self, host: &mut H, r: &Record) -> Result<(), Failed>
+        requires ready { IsReady self.old (H.view host.old) }
         requires room { self.old.last + length (log_of r.now) ≤ 2 ^ 62 }
-        requires found { IfSome (H.seen host.old self.old.file) (Holds self.old) }
-        requires closed { ImagesAre (H.seen host.old self.old.file) (H.image host.old self.old.file) (IsClosedAt self.old.last) }
-        ensures appended { OnOk result (Told (H.seen host.old self.old.file) (H.seen host.new self.old.file)
+        ensures appended { OnOk result (FileTold self.old.file (H.view host.old) (H.view host.new)
             (λ was now. EndsAt self.new.last (records_of was ++ r.now) now)) }
-        ensures written { OnOk result (Told (H.seen host.old self.old.file) (H.seen host.new self.old.file) (λ was now. now ≡ with_records self.old.last r.now was)) }
-        ensures left { OnOk result (IfSome (H.seen host.new self.old.file) (Holds self.new)) }
-        ensures safe { OnOk result (IsSafe (H.seen host.new self.old.file) (H.image host.new self.old.file)) }
+        ensures written { OnOk result (FileTold self.old.file (H.view host.old) (H.view host.new)
+            (λ was now. now ≡ with_records self.old.last r.now was)) }
+        ensures settled { OnOk result (IsSettled self.old.file self.new (H.view host.new)) }
         ensures moved { OnOk result (self.new ≡ moved self.old r.now) }
-        ensures told { Told (H.seen host.old self.old.file) (H.seen host.new self.old.file) (λ _ _. Unit {0}) }
         ensures failed { OnErr result (self.new ≡ self.old) }
+        ensures images { (bytes : List ℕ) → (H.view host.new).image self.old.file bytes
+            → MayGain ((H.view host.old).image self.old.file) self.old.last r.now bytes }
         // A crash at any moment of the call leaves the records from before it, with the new ones or without.
-        ensures any_moment { (rs : List (List ℕ)) → ((bytes : List ℕ) → H.image host.old self.old.file bytes → EndsAt self.old.last rs bytes)
-            → LeavesOnly (H.moment host.old) (H.moment host.new) (H.left_since host.old) (H.left_since host.new)
-            (Appending self.old.file (H.image host.old) (H.stamp host.old) rs r.now) }
-        ensures images { (rs : List (List ℕ)) → ((bytes : List ℕ) → H.image host.old self.old.file bytes → EndsAt self.old.last rs bytes)
-            → (bytes : List ℕ) → H.image host.new self.old.file bytes → IsBeforeOrAfter rs r.now bytes }
-        ensures others { OthersStay self.old.file (H.seen host.old) (H.seen host.new) (H.image host.old) (H.image host.new) }
-        ensures only_a_fault { (e : LogError) → IsErrOf result e → e ≡ LogError.DiskFault }
-        ensures fault { OnErr result (Rose (H.disk_faults host.old) (H.disk_faults host.new)) }
-        ensures no_fault { OnOk result (H.disk_faults host.new ≡ H.disk_faults host.old) }
-        ensures faults_stand { H.disk_faults host.old ≤ H.disk_faults host.new }
-        ensures stamp { H.stamp host.new ≡ H.stamp host.old }
-        ensures input { Kept (H.left host.old) (H.left host.new) }
-        ensures sink { Kept (H.given host.old) (H.given host.new) }
-        ensures read_faults { H.read_faults host.new ≡ H.read_faults host.old }
-        ensures write_faults { H.write_faults host.new ≡ H.write_faults host.old }
-        ensures grows { Grows (H.journal host.old) (H.journal host.new) }
+        ensures writes { WritesFile self.old.file
+            (Leaves self.old.file (MayGain ((H.view host.old).image self.old.file)
+            self.old.last r.now) (H.view host.old)) (H.view host.old) (H.view host.new) }
+        ensures cause { DiskCause (IsErr result) (H.view host.old) (H.view host.new) }
     {
         open_behind(host, self.file, self.last, &r.bytes)?;
         self.last += r.bytes.len() as u64;

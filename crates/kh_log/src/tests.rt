@@ -128,7 +128,8 @@ fn append_two<H: Host>(alloc: Global, host: &mut H) -> Result<(), LogError> {
         return Err(LogError::NotALog(0));
     }
     log.append(host, &first)?;
-    log.append(host, &second)
+    log.append(host, &second)?;
+    Ok(())
 }
 
 // How many records stand in file 1 of the crash image after so many calls; they are read and are the first of `ab` and `c`.

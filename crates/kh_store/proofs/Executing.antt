@@ -1,13 +1,15 @@
 -- A command is executed: what the store was and is, and what a crash leaves on the way.
-use Rattle.std.proofs.Common.{ℕ, ℤ, ◌≡◌, ◌+◌, nat_le, true, false, cond, if◌then◌else◌, List, [], ◌∷◌, ◌++◌, length, Option, Some, None, refl, sym, ap, subst, inl, inr, ◌∙◌, arith}
+use Rattle.std.proofs.Common.{ℕ, ℤ, ◌≡◌, ◌+◌, ◌⊎◌, nat_le, true, false, cond, if◌then◌else◌, List, [], ◌∷◌, ◌++◌, length, Option, Some, None, refl, sym, ap, subst, inl, inr, ◌∙◌, arith, append-nil}
 use Rattle.std.specs.Prelude.{IfSome, ◌&&◌}
 use Rattle.std.proofs.lemmas.Bool.{and_right}
 use Rattle.kh_io.specs.declared.files.Files.{Files}
 use Rattle.kh_io.specs.Told.{Told}
-use Rattle.kh_io.specs.Disk.{AreImages, IsSafe, LeavesOnly}
-use Rattle.kh_io.proofs.{started, weakened, told_map, told_same}
-use Rattle.kh_log.specs.Records.{Content, content_of, records_of, span}
-use Rattle.kh_log.specs.Log.{Place, Holds, moved, ImagesAre, EndsAt, IsBeforeOrAfter, Appending, whole, with_records}
+use Rattle.kh_io.specs.Disk.{IsSafe}
+use Rattle.kh_io.specs.View.{View}
+use Rattle.kh_io.specs.Frames.{FileTold, OthersStay, OfView, Leaves, WritesFile}
+use Rattle.kh_io.proofs.{asks_none, asks_write, writes_weakened, told_map, told_same}
+use Rattle.kh_log.specs.Records.{Content, content_of, records_of, IsClosedAt}
+use Rattle.kh_log.specs.Log.{Place, Holds, moved, ImagesAre, IsReady, IsSettled, EndsAt, IsBeforeOrAfter, MayGain, whole}
 use Rattle.kh_log.proofs.{settled}
 use Rattle.kh_term.specs.declared.name.Name.{Name}
 use Rattle.kh_read.specs.declared.form.Form.{Form}
@@ -15,124 +17,100 @@ use Rattle.kh_read.specs.declared.form.Form.TheVariants as form
 use Rattle.kh_store.specs.Tree.{Node}
 use Rattle.kh_store.specs.Machine.{is_logged, after}
 use Rattle.kh_store.specs.Command.{put_bytes, IsPut}
-use Rattle.kh_store.specs.State.{State, empty, log_limit, log_has_room, store_logs, records_logged, log_with, store_after}
+use Rattle.kh_store.specs.State.{State, empty, log_limit, log_has_room, store_logs, records_logged, store_after}
 use Rattle.kh_store.specs.Recovery.{Recovery, Recovered, Replays, ends, applies, ReplaysUnless, Recovers}
-use Rattle.kh_store.specs.Store.{Opened, state_of, Stands, OthersLeft, GainsRecords, MaybeLogs, Executing}
+use Rattle.kh_store.specs.Store.{Opened, state_of, Stands, Executing}
 use Rattle.kh_store.proofs.Recovery.{replays_then}
-use Rattle.kh_store.proofs.Stands.{left_recovers}
+use Rattle.kh_store.proofs.Stands.{NoneUntold, others_safe, left_recovers}
 
 -- files whose log is whole recover to what its records lead to
 whole_recovers : (files : Files) (rs : List (List ℕ)) (end : Recovery) → content_of files.l0 ≡ whole rs → Replays empty rs end → Recovers files end
 whole_recovers files rs end is replays = subst (λ (k : Content). ReplaysUnless k.lacking k.records end) (sym is) replays
 
 -- where nothing was done
-pub stood : (form : Form) (store : Opened) (seen : Option (List ℕ)) (image : ℕ → List ℕ → Type 0) (moment given : ℕ) (since : ℕ → Files → ℕ → Type 0)
-    → ((files : Files) (s : ℕ) → since moment files s → AreImages image files × (s ≡ given)) → Stands store seen (image 1)
-    → LeavesOnly moment moment since since (Executing form (state_of store) given)
-stood form store seen image moment given since now stands = started moment since (λ files s left.
-    let here = now files s left in
-    record { stamp = here.1; recovers = inl (left_recovers store seen (image 1) stands files (here.0 1 (omega arith))) })
+pub stood : (form : Form) (store : Opened) (v : View) → ((files : Files) (s : ℕ) → v.since v.moment files s → OfView v files s) → Stands store v
+    → WritesFile 1 (Executing form (state_of store) v.stamp) v v
+stood form store v now stands = asks_write 1 (omega arith) (asks_none v now) (λ files s of.
+    record { stamp = of.stamp; recovers = inl (left_recovers store v stands files (of.images 1 (omega arith))) })
 
 -- the last gate is closed in whatever a crash leaves
 pub closed_left : (seen : Option (List ℕ)) (image : List ℕ → Type 0) (P : List ℕ → Type 0) → IsSafe seen image → IfSome seen P → ImagesAre seen image P
 closed_left (Some was) image P safe closed = λ bytes there. let e = safe bytes there in let same : was ≡ bytes = cc in subst P same closed
 closed_left None image P safe closed = tt
 
--- of a file that isn't told nothing is left
-nothing_left : {P : Files → ℕ → Type 0} (image : ℕ → List ℕ → Type 0) (given last m0 m1 : ℕ) (past since : ℕ → Files → ℕ → Type 0) (bytes : List ℕ)
-    → ((b : List ℕ) → image 1 b → ⊥)
-    → ((rs : List (List ℕ)) → ((b : List ℕ) → image 1 b → EndsAt last rs b) → LeavesOnly m0 m1 past since (Appending 1 image given rs (bytes ∷ [])))
-    → LeavesOnly m0 m1 past since P
-nothing_left {P} image given last m0 m1 past since bytes none run =
-    let three : List (List ℕ) = [] ∷ [] ∷ [] ∷ [] in
-    let first = run [] (λ b there. absurd (none b there)) in
-    let second = run three (λ b there. absurd (none b there)) in
-    record {
-      later = first.later;
-      each = λ files s left. absurd (never files (first.each files s left).records (second.each files s left).records);
-      earlier = λ t files s before left. elim (first.earlier t files s before left) [
-        | inl was ↦ inl was
-        | inr one ↦ elim (second.earlier t files s before left) [
-          | inl was ↦ inl was
-          | inr other ↦ absurd (never files one.records other.records)
-        ]
-      ];
-    }
+-- the log of file 1 may be appended to
+pub ready_at : (log : Place) (v : View) → log.file ≡ 1 → log.read ≡ log.records → IfSome (v.seen 1) (Holds log) → ImagesAre (v.seen 1) (v.image 1) (IsClosedAt log.last) → IsReady log v
+ready_at log v one all found closed = record {
+  all_read = all;
+  found = subst (λ f. IfSome (v.seen f) (Holds log)) (sym one) found;
+  closed = subst (λ f. ImagesAre (v.seen f) (v.image f) (IsClosedAt log.last)) (sym one) closed;
+}
+
+-- no records alone are two lists
+ends_once : (bytes : List ℕ) (files : Files) → IsBeforeOrAfter [] (bytes ∷ []) files.l0 → IsBeforeOrAfter ([] ∷ [] ∷ [] ∷ []) (bytes ∷ []) files.l0 → ⊥
+ends_once bytes files a b = elim a [
+  | inl x ↦ elim b [ inl y ↦ omega (arith, long _ _ x.content, long _ _ y.content) | inr y ↦ omega (arith, long _ _ x.content, long _ _ y.content) ]
+  | inr x ↦ elim b [ inl y ↦ omega (arith, long _ _ x.content, long _ _ y.content) | inr y ↦ omega (arith, long _ _ x.content, long _ _ y.content) ]
+]
   where
     long : (content : Content) (rs : List (List ℕ)) → content ≡ whole rs → length content.records ≡ length rs
     long content rs is = ap (λ (k : Content). length k.records) is
 
-    never : (files : Files) → IsBeforeOrAfter [] (bytes ∷ []) files.l0 → IsBeforeOrAfter ([] ∷ [] ∷ [] ∷ []) (bytes ∷ []) files.l0 → ⊥
-    never files a b = elim a [
-      | inl x ↦ elim b [ inl y ↦ omega (arith, long _ _ x.content, long _ _ y.content) | inr y ↦ omega (arith, long _ _ x.content, long _ _ y.content) ]
-      | inr x ↦ elim b [ inl y ↦ omega (arith, long _ _ x.content, long _ _ y.content) | inr y ↦ omega (arith, long _ _ x.content, long _ _ y.content) ]
+-- what a crash leaves while a record is written
+gained : (form : Form) (store : Opened) (seen : Option (List ℕ)) (image : List ℕ → Type 0) (files : Files) (bytes : List ℕ)
+    → IsSafe seen image → IfSome seen (Holds store.place) → IfSome seen (IsClosedAt store.place.last)
+    → IfSome seen (λ bytes. Replays empty (records_of bytes) (Recovered (state_of store))) → ((b : List ℕ) → seen ≡ None → image b → ⊥)
+    → Replays (state_of store) (bytes ∷ []) (Recovered (store_after form (state_of store))) → MayGain image store.place.last (bytes ∷ []) files.l0
+    → Recovers files (Recovered (state_of store)) ⊎ Recovers files (Recovered (store_after form (state_of store)))
+gained form store (Some was) image files bytes safe found closed recovers untold replays may =
+    let rs = records_of was in
+    elim (may rs (settled store.place (Some was) was refl found closed safe)) [
+      | inl before ↦ inl (whole_recovers files rs (Recovered (state_of store)) before.content recovers)
+      | inr behind ↦ inr (whole_recovers files (rs ++ bytes ∷ []) (Recovered (store_after form (state_of store))) behind.content
+          (replays_then empty rs (bytes ∷ []) (state_of store) (Recovered (store_after form (state_of store))) recovers replays))
     ]
+gained form store None image files bytes safe found closed recovers untold replays may =
+    absurd (ends_once bytes files (may [] (λ b there. absurd (untold b refl there))) (may ([] ∷ [] ∷ [] ∷ []) (λ b there. absurd (untold b refl there))))
 
 -- while a record is written
-pub writes : (form : Form) (store : Opened) (seen : Option (List ℕ)) (image : ℕ → List ℕ → Type 0) (given file last m0 m1 : ℕ) (past since : ℕ → Files → ℕ → Type 0) (bytes : List ℕ) (more : List (List ℕ))
-    → file ≡ 1 → last ≡ store.place.last → more ≡ bytes ∷ [] → Stands store seen (image 1) → ((b : List ℕ) → seen ≡ None → image 1 b → ⊥)
-    → Replays (state_of store) (bytes ∷ []) (Recovered (store_after form (state_of store)))
-    → ((rs : List (List ℕ)) → ((b : List ℕ) → image file b → EndsAt last rs b) → LeavesOnly m0 m1 past since (Appending file image given rs more))
-    → LeavesOnly m0 m1 past since (Executing form (state_of store) given)
-writes form store seen image given file last m0 m1 past since bytes more one same is stands untold replays run =
-    written seen stands untold (rw (one, same, is) at run)
-  where
-    written : (seen : Option (List ℕ)) → Stands store seen (image 1) → ((b : List ℕ) → seen ≡ None → image 1 b → ⊥)
-        → ((rs : List (List ℕ)) → ((b : List ℕ) → image 1 b → EndsAt store.place.last rs b) → LeavesOnly m0 m1 past since (Appending 1 image given rs (bytes ∷ [])))
-        → LeavesOnly m0 m1 past since (Executing form (state_of store) given)
-    written (Some was) stands untold run =
-        let rs = records_of was in
-        weakened (run rs (settled store.place (Some was) was refl stands.found stands.closed stands.safe)) (λ files s left. record {
-          stamp = left.stamp;
-          recovers = elim left.records [
-            | inl before ↦ inl (whole_recovers files rs (Recovered (state_of store)) before.content stands.recovers)
-            | inr behind ↦ inr (whole_recovers files (rs ++ bytes ∷ []) (Recovered (store_after form (state_of store))) behind.content
-                (replays_then empty rs (bytes ∷ []) (state_of store) (Recovered (store_after form (state_of store))) stands.recovers replays))
-          ];
-        })
-    written None stands untold run = nothing_left image given store.place.last m0 m1 past since bytes (λ b there. untold b refl there) run
-
--- what a crash then leaves of the other files
-pub append_leaves : (store : Opened) (seen : Option (List ℕ)) (image : ℕ → List ℕ → Type 0) (given file last m0 m1 : ℕ) (past since : ℕ → Files → ℕ → Type 0) (more : List (List ℕ))
-    → file ≡ 1 → last ≡ store.place.last → Stands store seen (image 1) → ((b : List ℕ) → seen ≡ None → image 1 b → ⊥)
-    → ((rs : List (List ℕ)) → ((b : List ℕ) → image file b → EndsAt last rs b) → LeavesOnly m0 m1 past since (Appending file image given rs more))
-    → LeavesOnly m0 m1 past since (λ files s. OthersLeft 1 image files)
-append_leaves store (Some was) image given file last m0 m1 past since more one same stands untold run =
-    let rs = records_of was in
-    let ends : (b : List ℕ) → image 1 b → EndsAt store.place.last rs b = settled store.place (Some was) was refl stands.found stands.closed stands.safe in
-    weakened (run rs (λ b there. subst (λ n. EndsAt n rs b) (sym same) (ends b (subst (λ f. image f b) one there))))
-    (λ files s left other lt elsewhere. left.others other lt (λ is. elsewhere (is ∙ one)))
-append_leaves store None image given file last m0 m1 past since more one same stands untold run =
-    weakened (run [] (λ b there. absurd (untold b refl (subst (λ f. image f b) one there)))) (λ files s left other lt elsewhere. left.others other lt (λ is. elsewhere (is ∙ one)))
+pub writes : (form : Form) (store : Opened) (v w : View) (file last : ℕ) (bytes : List ℕ) (more : List (List ℕ)) → file ≡ 1 → last ≡ store.place.last → more ≡ bytes ∷ []
+    → Stands store v → ((b : List ℕ) → v.seen 1 ≡ None → v.image 1 b → ⊥) → Replays (state_of store) (bytes ∷ []) (Recovered (store_after form (state_of store)))
+    → WritesFile file (Leaves file (MayGain (v.image file) last more) v) v w → WritesFile 1 (Executing form (state_of store) v.stamp) v w
+writes form store v w file last bytes more one same is stands untold replays run =
+    let run' : WritesFile 1 (Leaves 1 (MayGain (v.image 1) store.place.last (bytes ∷ [])) v) v w = rw (one, same, is) at run in
+    writes_weakened run' (λ files s left. record {
+      stamp = left.stamp;
+      recovers = gained form store (v.seen 1) (v.image 1) files bytes stands.safe stands.found stands.closed stands.recovers untold replays left.own;
+    })
 
 -- once it was written
-pub stands_after : (form : Form) (store next : Opened) (seen seen' : ℕ → Option (List ℕ)) (image image' : ℕ → List ℕ → Type 0) (file : ℕ) (bytes : List ℕ) (more : List (List ℕ))
-    → file ≡ 1 → more ≡ bytes ∷ [] → Stands store (seen 1) (image 1)
-    → Told (seen file) (seen' file) (λ was now. EndsAt next.place.last (records_of was ++ more) now) → IsSafe (seen' file) (image' file)
-    → IfSome (seen' file) (Holds next.place) → state_of next ≡ store_after form (state_of store)
-    → Replays (state_of store) (bytes ∷ []) (Recovered (store_after form (state_of store))) → Stands next (seen' 1) (image' 1)
-stands_after form store next seen seen' image image' file bytes more one is stands told safe holds state replays =
-    written (seen 1) (seen' 1) stands (rw (one, is) at told) (rw one at safe) (rw one at holds)
-  where
-    written : (was now : Option (List ℕ)) → Stands store was (image 1) → Told was now (λ was now. EndsAt next.place.last (records_of was ++ bytes ∷ []) now) → IsSafe now (image' 1)
-        → IfSome now (Holds next.place) → Stands next now (image' 1)
-    written (Some was) (Some now) stands told safe holds = record {
-      safe = safe;
-      found = holds;
-      closed = told.gate;
-      recovers = subst (λ (t : State). Replays empty (records_of now) (Recovered t)) (sym state)
-          (subst (λ (rs : List (List ℕ)). Replays empty rs (Recovered (store_after form (state_of store)))) (sym (ap (λ (k : Content). k.records) told.content))
-          (replays_then empty (records_of was) (bytes ∷ []) (state_of store) (Recovered (store_after form (state_of store))) stands.recovers replays));
-    }
-    written None (Some now) stands told safe holds = absurd told
-    written was None stands told safe holds = record { safe = safe; found = tt; closed = tt; recovers = tt }
+replays_all : (form : Form) (store next : Opened) (seen seen' : Option (List ℕ)) (bytes : List ℕ) → IfSome seen (λ bytes. Replays empty (records_of bytes) (Recovered (state_of store)))
+    → Told seen seen' (λ was now. EndsAt next.place.last (records_of was ++ bytes ∷ []) now) → state_of next ≡ store_after form (state_of store)
+    → Replays (state_of store) (bytes ∷ []) (Recovered (store_after form (state_of store))) → IfSome seen' (λ bytes. Replays empty (records_of bytes) (Recovered (state_of next)))
+replays_all form store next (Some was) (Some now) bytes recovers told state replays =
+    subst (λ (t : State). Replays empty (records_of now) (Recovered t)) (sym state)
+    (subst (λ (rs : List (List ℕ)). Replays empty rs (Recovered (store_after form (state_of store)))) (sym (ap (λ (k : Content). k.records) told.content))
+    (replays_then empty (records_of was) (bytes ∷ []) (state_of store) (Recovered (store_after form (state_of store))) recovers replays))
+replays_all form store next None (Some now) bytes recovers told state replays = absurd told
+replays_all form store next was None bytes recovers told state replays = tt
 
--- and the log has one record more
-pub gains_one : (seen seen' : ℕ → Option (List ℕ)) (file last : ℕ) (bytes : List ℕ) (rs : List (List ℕ)) → file ≡ 1 → rs ≡ bytes ∷ []
-    → Told (seen file) (seen' file) (λ was now. EndsAt last (records_of was ++ rs) now) → Told (seen 1) (seen' 1) GainsRecords
-gains_one seen seen' file last bytes rs one same appended = told_map (seen 1) (seen' 1)
-    (subst (λ f. Told (seen f) (seen' f) (λ was now. EndsAt last (records_of was ++ rs) now)) one appended)
-    (λ was now ends. inr (rs, omega (arith, ap length same), ap (λ (k : Content). k.records) ends.content))
+gate_closed : (seen seen' : Option (List ℕ)) (last : ℕ) (bytes : List ℕ) → Told seen seen' (λ was now. EndsAt last (records_of was ++ bytes ∷ []) now) → IfSome seen' (IsClosedAt last)
+gate_closed (Some was) (Some now) last bytes told = told.gate
+gate_closed None (Some now) last bytes told = absurd told
+gate_closed was None last bytes told = tt
+
+pub stands_after : (form : Form) (store next : Opened) (v w : View) (file : ℕ) (bytes : List ℕ) (more : List (List ℕ)) → file ≡ 1 → more ≡ bytes ∷ [] → Stands store v
+    → FileTold file v w (λ was now. EndsAt next.place.last (records_of was ++ more) now) → IsSettled file next.place w → OthersStay file v w → NoneUntold w → state_of next ≡ store_after form (state_of store)
+    → Replays (state_of store) (bytes ∷ []) (Recovered (store_after form (state_of store))) → Stands next w
+stands_after form store next v w file bytes more one is stands told settled others untold state replays =
+    let told' : FileTold 1 v w (λ was now. EndsAt next.place.last (records_of was ++ bytes ∷ []) now) = rw (one, is) at told in
+    record {
+      safe = rw one at settled.safe;
+      others = others_safe v w (rw one at others) untold stands.others;
+      found = rw one at settled.found;
+      closed = gate_closed (v.seen 1) (w.seen 1) next.place.last bytes told';
+      recovers = replays_all form store next (v.seen 1) (w.seen 1) bytes stands.recovers told' state replays;
+    }
 
 -- These bytes are the record of a put that is logged.
 pub record IsLogged (path : List Name) (number : ℤ) (s : State) (bytes : List ℕ) : Type 0 where
@@ -164,39 +142,17 @@ record_is path number s bytes rs same logged =
     same ∙ ap (λ (b : List ℕ). b ∷ []) logged.put.packed ∙ sym (ap (λ b. if b then put_bytes path number ∷ [] else []) logged.logs)
 
 -- stands in the log once it was written
-pub logs_one : (seen seen' : ℕ → Option (List ℕ)) (file last : ℕ) (bytes : List ℕ) (rs : List (List ℕ)) (path : List Name) (number : ℤ) (s : State) → file ≡ 1 → last ≡ s.span
-    → rs ≡ bytes ∷ [] → IsLogged path number s bytes → Told (seen file) (seen' file) (λ was now. now ≡ with_records last rs was)
-    → Told (seen 1) (seen' 1) (λ was now. now ≡ log_with (form.Put path number) s was)
-logs_one seen seen' file last bytes rs path number s one place same logged written =
-    told_map (seen 1) (seen' 1) (subst (λ f. Told (seen f) (seen' f) (λ was now. now ≡ with_records last rs was)) one written)
-    (λ was now is. is ∙ ap (λ n. with_records n rs was) place ∙ ap (λ (l : List (List ℕ)). with_records s.span l was) (record_is path number s bytes rs same logged))
-
--- and may stand there where the disk failed
-pub maybe_logs : (store : Opened) (seen seen' : ℕ → Option (List ℕ)) (image image' : ℕ → List ℕ → Type 0) (file last : ℕ) (bytes : List ℕ) (rs : List (List ℕ)) (path : List Name) (number : ℤ)
-    → file ≡ 1 → last ≡ store.place.last → rs ≡ bytes ∷ [] → IsLogged path number (state_of store) bytes → Stands store (seen 1) (image 1)
-    → Told (seen file) (seen' file) (λ was now. Unit {0}) → ((b : List ℕ) → seen' file ≡ Some b → image' file b)
-    → ((had : List (List ℕ)) → ((b : List ℕ) → image file b → EndsAt last had b) → (b : List ℕ) → image' file b → IsBeforeOrAfter had rs b)
-    → Told (seen 1) (seen' 1) (MaybeLogs (form.Put path number) (state_of store))
-maybe_logs store seen seen' image image' file last bytes rs path number one place same logged stands told law left =
-    maybe (seen 1) (seen' 1) stands (rw one at told) (rw one at law) (rw (one, place) at left)
-  where
-    is : rs ≡ records_logged (form.Put path number) (state_of store)
-    is = record_is path number (state_of store) bytes rs same logged
-
-    maybe : (was now : Option (List ℕ)) → Stands store was (image 1) → Told was now (λ was now. Unit {0}) → ((b : List ℕ) → now ≡ Some b → image' 1 b)
-        → ((had : List (List ℕ)) → ((b : List ℕ) → image 1 b → EndsAt store.place.last had b) → (b : List ℕ) → image' 1 b → IsBeforeOrAfter had rs b)
-        → Told was now (MaybeLogs (form.Put path number) (state_of store))
-    maybe (Some was) (Some now) stands told law left =
-        elim (left (records_of was) (settled store.place (Some was) was refl stands.found stands.closed stands.safe) now (law now refl)) [
-          | inl before ↦ inl before
-          | inr behind ↦ inr (subst (λ (l : List (List ℕ)). EndsAt (span (records_of was ++ l)) (records_of was ++ l) now) is behind)
-        ]
-    maybe None (Some now) stands told law left = absurd told
-    maybe was None stands told law left = tt
+pub adds_one : (v w : View) (file last : ℕ) (bytes : List ℕ) (rs : List (List ℕ)) (path : List Name) (number : ℤ) (s : State) → file ≡ 1
+    → rs ≡ bytes ∷ [] → IsLogged path number s bytes → FileTold file v w (λ was now. EndsAt last (records_of was ++ rs) now)
+    → FileTold 1 v w (λ was now. records_of now ≡ records_of was ++ records_logged (form.Put path number) s)
+adds_one v w file last bytes rs path number s one same logged appended =
+    told_map (v.seen 1) (w.seen 1) (subst (λ f. FileTold f v w (λ was now. EndsAt last (records_of was ++ rs) now)) one appended)
+    (λ was now is. ap (λ (k : Content). k.records) is.content ∙ ap (λ (l : List (List ℕ)). records_of was ++ l) (record_is path number s bytes rs same logged))
 
 -- a log that gains no record
-pub logs_nothing : (form : Form) (s : State) (o : Option (List ℕ)) → records_logged form s ≡ [] → Told o o (λ was now. now ≡ log_with form s was)
-logs_nothing form s o none = told_same _ o (λ was. ap (λ (l : List (List ℕ)). with_records s.span l was) (sym none))
+pub adds_none : (form : Form) (s : State) (v : View) → records_logged form s ≡ [] → FileTold 1 v v (λ was now. records_of now ≡ records_of was ++ records_logged form s)
+adds_none form s v none = told_same (λ was now. records_of now ≡ records_of was ++ records_logged form s) (v.seen 1)
+    (λ was. sym (append-nil (records_of was)) ∙ ap (λ (l : List (List ℕ)). records_of was ++ l) (sym none))
 
 none_logged : (path : List Name) (number : ℤ) (s : State) → store_logs (form.Put path number) s ≡ false → records_logged (form.Put path number) s ≡ []
 none_logged path number s other = ap (λ b. if b then put_bytes path number ∷ [] else []) other

@@ -1,32 +1,38 @@
 -- A store is opened: what its calls give together.
 use Rattle.std.proofs.Common.{ℕ, zero, suc, ◌≡◌, ◌≢◌, ◌<◌, ◌≤◌, List, [], length, Option, Some, None, refl, sym, ap, subst, inl, inr, ◌∙◌, arith}
-use Rattle.std.proofs.lemmas.Bool.{false≢true}
-use Rattle.std.specs.Prelude.{IfSome, IsSome, ◌⊎◌}
+use Rattle.std.proofs.lemmas.Bool.{cases_eq, false≢true}
+use Rattle.std.specs.Prelude.{IfSome, IsSome}
 use Rattle.kh_io.specs.declared.files.Files.{Files}
 use Rattle.kh_io.specs.Told.{Told, Kept}
-use Rattle.kh_io.specs.Disk.{file_of, AreImages, TellsFiles, LeavesOnly}
+use Rattle.kh_io.specs.Disk.{file_of, TellsFiles}
+use Rattle.kh_io.specs.View.{View}
+use Rattle.kh_io.specs.Frames.{FilesStay, OthersStay, FilesTold, OfView, During, Leaves}
 use Rattle.kh_io.proofs.{both, weakened, told_both}
 use Rattle.kh_log.specs.declared.error.LogError.{LogError}
 use Rattle.kh_log.specs.declared.error.LogError.TheVariants as log_error
 use Rattle.kh_store.specs.declared.store.OpenError.TheVariants as open_error
 use Rattle.kh_log.specs.Records.{Content, content_of, records_of, lacking_in, log_of, span, IsClosedAt}
-use Rattle.kh_log.specs.Log.{Place, Holds, Reading}
+use Rattle.kh_log.specs.Log.{Place, Holds}
 use Rattle.kh_log.proofs.{content_of-short, nothing_ends}
 use Rattle.kh_store.specs.State.{empty}
 use Rattle.kh_store.specs.Recovery.{Recovery, Damaged, Replays, ReplaysUnless, Recovers}
-use Rattle.kh_store.specs.Store.{FilesTold, IsShort, Begun, Opening}
-use Rattle.kh_store.specs.Opening.{WasShort, Beginning, opening_error}
+use Rattle.kh_store.specs.Store.{IsShort, StaysOrShort, Begun, IsOrShort, Opening}
+use Rattle.kh_store.specs.Opening.{WasShort, opening_error}
 
 -- ---- what a crash leaves
 
--- before a log is begun
-pub synced : (seen : ℕ → Option (List ℕ)) {image : ℕ → List ℕ → Type 0} {given m0 m1 : ℕ} {past since : ℕ → Files → ℕ → Type 0}
-    → LeavesOnly m0 m1 past since (Reading image given) → LeavesOnly m0 m1 past since (Opening seen image given)
-synced seen run = weakened run (λ files s left. record {
-  stamp = left.stamp;
-  log = inl (left.images 1 (omega arith));
-  others = λ file lt other. left.images file lt;
-})
+-- what a crash at entry might have left
+pub of_entry : (v : View) {was_short : Type 0} (files : Files) (s : ℕ) → OfView v files s → Leaves 1 (IsOrShort (v.image 1) was_short) v files s
+of_entry v files s of = record { own = inl (of.images 1 (omega arith)); others = λ other lt not. of.images other lt; stamp = of.stamp }
+
+-- while an empty log is written, behind a call that leaves the files
+pub short_then : (u v : View) {was_short : Type 0} → FilesStay u v → v.stamp ≡ u.stamp → (IsSome (v.seen 1) → was_short) → (files : Files) (s : ℕ)
+    → Leaves 1 (λ bytes. IsSome (v.seen 1) × IsShort bytes) v files s → Leaves 1 (IsOrShort (u.image 1) was_short) u files s
+short_then u v stay same was files s left = record {
+  own = inr (left.own.1, was left.own.0);
+  others = λ other lt not. (stay other lt).only (file_of files other) (left.others other lt not);
+  stamp = left.stamp ∙ same;
+}
 
 was_short_before : (a b : Option (List ℕ)) → Kept a b → WasShort b → IfSome a IsShort
 was_short_before (Some x) (Some y) kept short = omega (arith, short, ap length kept)
@@ -34,41 +40,35 @@ was_short_before None b kept short = tt
 was_short_before a None kept short = absurd short
 
 -- while a log is begun, once the files were made safe
-pub begins : (seen : ℕ → Option (List ℕ)) (one : Option (List ℕ)) (image image' : ℕ → List ℕ → Type 0) (given given' : ℕ)
-    → Kept (seen 1) one → ((file : ℕ) → file < 4 → (bytes : List ℕ) → image' file bytes → image file bytes) → given' ≡ given
-    → (files : Files) (s : ℕ) → Beginning one image' given' files s → Opening seen image given files s
-begins seen one image image' given given' kept only same files s b = record {
-  stamp = b.stamp ∙ same;
-  log = elim b.log [
+pub begins : (u v : View) → Kept (u.seen 1) (v.seen 1) → ((file : ℕ) → file < 4 → (bytes : List ℕ) → v.image file bytes → u.image file bytes) → v.stamp ≡ u.stamp
+    → (files : Files) (s : ℕ) → Leaves 1 (IsOrShort (v.image 1) (WasShort (v.seen 1))) v files s → Opening u files s
+begins u v kept only same files s left = record {
+  own = elim left.own [
     | inl there ↦ inl (only 1 (omega arith) files.l0 there)
-    | inr short ↦ inr (short.0, was_short_before (seen 1) one kept short.1)
+    | inr short ↦ inr (short.0, was_short_before (u.seen 1) (v.seen 1) kept short.1)
   ];
-  others = λ file lt other. only file lt (file_of files file) (b.others file lt other);
+  others = λ other lt not. only other lt (file_of files other) (left.others other lt not);
+  stamp = left.stamp ∙ same;
 }
 
 -- and once it was begun
-begun_left : (seen : ℕ → Option (List ℕ)) (one : Option (List ℕ)) (image image' image'' : ℕ → List ℕ → Type 0) (given given' : ℕ)
-    → Kept (seen 1) one → ((file : ℕ) → file < 4 → (bytes : List ℕ) → image' file bytes → image file bytes) → given' ≡ given
-    → ((bytes : List ℕ) → image'' 1 bytes → image' 1 bytes ⊎ (IsShort bytes × WasShort one))
-    → ((file : ℕ) → file < 4 → file ≢ 1 → (bytes : List ℕ) → image'' file bytes → image' file bytes)
-    → (files : Files) (s : ℕ) → AreImages image'' files → s ≡ given' → Opening seen image given files s
-begun_left seen one image image' image'' given given' kept only same here others files s images stamp =
-    begins seen one image image' given given' kept only same files s (record {
-      stamp = stamp;
-      log = here files.l0 (images 1 (omega arith));
-      others = λ file lt other. others file lt other (file_of files file) (images file lt);
+begun_left : (u v w : View) → Kept (u.seen 1) (v.seen 1) → ((file : ℕ) → file < 4 → (bytes : List ℕ) → v.image file bytes → u.image file bytes) → v.stamp ≡ u.stamp
+    → ((bytes : List ℕ) → w.image 1 bytes → IsOrShort (v.image 1) (WasShort (v.seen 1)) bytes) → OthersStay 1 v w → w.stamp ≡ v.stamp
+    → (files : Files) (s : ℕ) → OfView w files s → Opening u files s
+begun_left u v w kept only same here others same' files s of =
+    begins u v kept only same files s (record {
+      own = here files.l0 (of.images 1 (omega arith));
+      others = λ other lt not. (others other lt not).only (file_of files other) (of.images other lt);
+      stamp = of.stamp ∙ same';
     })
 
 -- a log was begun, and the files are read
-pub opens : {m0 m1 m2 m3 : ℕ} {past mid since later : ℕ → Files → ℕ → Type 0} (seen : ℕ → Option (List ℕ)) (one : Option (List ℕ)) (image image' image'' : ℕ → List ℕ → Type 0)
-    (given given' given'' : ℕ) → LeavesOnly m0 m1 past mid (Reading image given) → LeavesOnly m1 m2 mid since (Beginning one image' given') → LeavesOnly m2 m3 since later (Reading image'' given'')
-    → Kept (seen 1) one → ((file : ℕ) → file < 4 → (bytes : List ℕ) → image' file bytes → image file bytes) → given' ≡ given → given'' ≡ given'
-    → ((bytes : List ℕ) → image'' 1 bytes → image' 1 bytes ⊎ (IsShort bytes × WasShort one))
-    → ((file : ℕ) → file < 4 → file ≢ 1 → (bytes : List ℕ) → image'' file bytes → image' file bytes)
-    → LeavesOnly m0 m3 past later (Opening seen image given)
-opens seen one image image' image'' given given' given'' made begun read kept only same same' here others =
-    both (both (synced seen made) begun (begins seen one image image' given given' kept only same)) read (λ files s left.
-    begun_left seen one image image' image'' given given' kept only same here others files s left.images (left.stamp ∙ same'))
+pub opens : (u v w x : View) → During (OfView u) u v → During (Leaves 1 (IsOrShort (v.image 1) (WasShort (v.seen 1))) v) v w → During (OfView w) w x
+    → Kept (u.seen 1) (v.seen 1) → ((file : ℕ) → file < 4 → (bytes : List ℕ) → v.image file bytes → u.image file bytes) → v.stamp ≡ u.stamp
+    → ((bytes : List ℕ) → w.image 1 bytes → IsOrShort (v.image 1) (WasShort (v.seen 1)) bytes) → OthersStay 1 v w → w.stamp ≡ v.stamp
+    → During (Opening u) u x
+opens u v w x made begun read kept only same here others same' =
+    both (both (weakened made (of_entry u)) begun (begins u v kept only same)) read (begun_left u v w kept only same here others same')
 
 -- ---- what is told
 
@@ -104,14 +104,28 @@ of_told Q (Some x) (Some y) bytes same some told = let is : x ≡ bytes = cc in 
 of_told Q (Some x) None bytes same some told = absurd (false≢true some)
 of_told Q None b bytes same some told = absurd cc
 
+-- what is told once a log was begun was told before
+pub begun_back : (v w : View) → Told (v.seen 1) (w.seen 1) (λ _ _. Unit {0}) → OthersStay 1 v w → (file : ℕ) → file < 4 → IsSome (w.seen file) → IsSome (v.seen file)
+begun_back v w own others file lt some = elim (cases_eq file 1) [
+  | inl one ↦ subst (λ f. IsSome (w.seen f) → IsSome (v.seen f)) (sym one) (told_back _ (v.seen 1) (w.seen 1) own) some
+  | inr other ↦ told_back _ (v.seen file) (w.seen file) (others file lt other).read some
+]
+
 -- a fact of file 1 at entry is one of the files
-pub files_told : (seen seen' : ℕ → Option (List ℕ)) (Q : List ℕ → Type 0) (P : Files → Type 0) → (TellsFiles seen' → TellsFiles seen)
-    → Told (seen 1) (seen' 1) (λ was _. Q was) → ((files : Files) → Q files.l0 → P files) → FilesTold seen seen' P
-files_told seen seen' Q P back told is = record {
+pub files_told : (v w : View) (Q : List ℕ → Type 0) (P : Files → Type 0) → (TellsFiles w.seen → TellsFiles v.seen)
+    → Told (v.seen 1) (w.seen 1) (λ was _. Q was) → ((files : Files) → Q files.l0 → P files) → FilesTold v w P
+files_told v w Q P back told is = record {
   told = λ tells.
-      let there = files_there seen (back tells) in
-      (there.0, there.1, is there.0 (of_told Q (seen 1) (seen' 1) there.0.l0 (there.1 1 (omega arith)) (tells 1 (omega arith)) told));
+      let there = files_there v.seen (back tells) in
+      (there.0, there.1, is there.0 (of_told Q (v.seen 1) (w.seen 1) there.0.l0 (there.1 1 (omega arith)) (tells 1 (omega arith)) told));
 }
+
+-- what a read gave at entry, through the steps of an opening
+pub kept_then : (a b c : Option (List ℕ)) → Kept a b → Told b c StaysOrShort → Told a c StaysOrShort
+kept_then a b c kept stays = told_both a b c kept stays (λ x y z same q. subst (λ (was : List ℕ). StaysOrShort was z) same q)
+
+pub then_kept : (a b c : Option (List ℕ)) → Told a b StaysOrShort → Kept b c → Told a c StaysOrShort
+then_kept a b c stays kept = told_both a b c stays kept (λ x y z q same. subst (StaysOrShort x) (sym same) q)
 
 -- ---- the log
 

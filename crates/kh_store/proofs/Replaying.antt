@@ -3,31 +3,23 @@ use Rattle.std.proofs.Common.{◌≡◌, ◌≤◌, ◌+◌, ℕ, suc, ℤ, fals
 use Rattle.std.specs.Prelude.{slice_get, get_or, IfSome, All}
 use Rattle.std.proofs.lemmas.Bool.{and_parts, leb-true}
 use Rattle.std.proofs.lemmas.List.{drop_more, drop_all, take_all}
-use Rattle.std.proofs.lemmas.List.Elements.{All-nil, All-append}
-use Rattle.std.proofs.lemmas.Option.{slice_get_within, slice_get-get_or, get_or_from_slice_get}
+use Rattle.std.proofs.lemmas.Option.{slice_get_within, get_or_from_slice_get}
 use Rattle.kh_term.specs.declared.name.Name.{Name}
 use Rattle.kh_read.specs.declared.form.Form.TheVariants as form
-use Rattle.kh_io.specs.Told.{Told, Kept, Extends}
-use Rattle.kh_io.specs.Call.{Call}
-use Rattle.kh_io.proofs.{told_map, told_both, told_same, extends_both}
+use Rattle.kh_io.specs.Told.{Told, Kept}
+use Rattle.kh_io.proofs.{told_both}
 use Rattle.kh_log.specs.declared.error.LogError.{LogError}
 use Rattle.kh_log.specs.declared.error.LogError.TheVariants as log_error
 use Rattle.kh_store.specs.declared.store.OpenError.TheVariants as open_error
 use Rattle.kh_log.specs.Records.{length_of, records_of, span as records_span}
 use Rattle.kh_log.specs.Log.{Place, Holds}
-use Rattle.kh_log.specs.Calls.{AreMade, FailAmong, record_reads, records_reads}
-use Rattle.kh_log.proofs.{no_calls, made_both, fail_later, fail_more, records_front, no_earlier, record_length}
 use Rattle.kh_store.specs.Tree.{Node}
 use Rattle.kh_store.specs.Machine.{is_logged, after}
 use Rattle.kh_store.specs.Command.{put_bytes, IsPut}
 use Rattle.kh_store.specs.State.{State, empty, log_limit}
 use Rattle.kh_store.specs.Recovery.{Recovery, Recovered, Damaged, IsNoRecord, Replays, ends, applies, refuses}
-use Rattle.kh_store.specs.Damage.{FailAtRecord}
-use Rattle.kh_store.specs.Opening.{IsRecord, ReadsLog, opening_error}
+use Rattle.kh_store.specs.Opening.{IsRecord, opening_error}
 use Rattle.kh_store.proofs.Puts.{put_is_one}
-use Rattle.kh_store.proofs.Recovery.{replays_one, replays_some}
-use Rattle.kh_store.proofs.Calls.{made_reads, records_read_log}
-use Rattle.kh_store.proofs.Refused.{damaged_record, damage_behind}
 
 -- a put that the tree has no room for is no record
 pub unlogged : (bytes : List ℕ) (path : List Name) (number : ℤ) (nodes : List Node) (span : ℕ) → IsPut bytes path number
@@ -137,85 +129,6 @@ pub next_more : (a b : Option (List ℕ)) (span more next after : ℕ) → Kept 
 next_more (Some x) (Some y) span more next after kept at is = omega (arith, at, is)
 next_more None (Some y) span more next after kept at is = absurd kept
 next_more a None span more next after kept at is = tt
-
--- ---- the calls
-
--- so many records of a file were read
-abbrev pub RecordsRead : (seen seen' : Option (List ℕ)) (journal journal' : Option (List Call)) (count : ℕ) → Type 0
-RecordsRead seen seen' journal journal' count = Told seen seen' (λ was _. Extends journal journal' (AreMade (records_reads 1 (records_of was) count)))
-
-pub reads_none : (seen : Option (List ℕ)) (journal : Option (List Call)) (count : ℕ) → count ≡ 0 → RecordsRead seen seen journal journal count
-reads_none seen journal count none =
-    told_same _ seen (λ was. subst (λ n. Extends journal journal (AreMade (records_reads 1 (records_of was) n))) (sym none) (no_calls (AreMade []) journal refl))
-
--- the reads of the next record
-next_reads : (log : Place) (was r : List ℕ) → log.file ≡ 1 → Holds log was → slice_get (records_of was) log.read ≡ Some r
-    → record_reads log.file log.next (length r) ≡ record_reads 1 (records_span (take log.read (records_of was))) (length (get_or (records_of was) log.read []))
-next_reads log was r one holds got =
-    let size : length r ≡ length (get_or (records_of was) log.read []) = ap length (sym (get_or_from_slice_get (records_of was) log.read r [] got)) in
-    λ i. record_reads (one i) (holds.next i) (size i)
-
-pub reads_more : (a b c : Option (List ℕ)) (j0 j1 j2 : Option (List Call)) (log : Place) (after : ℕ) (r : List ℕ) → Kept a b → RecordsRead a b j0 j1 log.read → IfSome b (Holds log) → Kept b c
-    → Told b c (λ was _. slice_get (records_of was) log.read ≡ Some r) → log.file ≡ 1 → after ≡ log.read + 1 → Extends j1 j2 (AreMade (record_reads log.file log.next (length r)))
-    → RecordsRead a c j0 j2 after
-reads_more a b c j0 j1 j2 log after r same read holds kept got one more later =
-    let Read = λ (was : List ℕ). Extends j0 j1 (AreMade (records_reads 1 (records_of was) log.read)) in
-    told_both a b c (told_also (λ was now. now ≡ was) (λ was _. Read was) a b same read)
-    (told_also (λ was _. slice_get (records_of was) log.read ≡ Some r) (λ was _. Holds log was) b c got (told_holds b c (Holds log) kept holds)) (λ x y z p q.
-    let rs = records_of x in
-    let list = next_reads log x r one (subst (Holds log) p.0 q.1) (subst (λ (l : List ℕ). slice_get (records_of l) log.read ≡ Some r) p.0 q.0) in
-    let count : suc log.read ≡ after = omega (arith, more) in
-    extends_both (AreMade (records_reads 1 rs log.read)) (AreMade (record_reads log.file log.next (length r))) (AreMade (records_reads 1 rs after)) j0 j1 j2 p.1 later (λ calls rest made next.
-    subst (λ n. AreMade (records_reads 1 rs n) (calls ++ rest)) count
-    (made_both (records_reads 1 rs log.read) (record_reads 1 (records_span (take log.read rs)) (length (get_or rs log.read []))) calls rest made (next ∙ list))))
-
--- they are reads of the log alone
-pub reads_log : (a b : Option (List ℕ)) (j0 j1 : Option (List Call)) (count : ℕ) → RecordsRead a b j0 j1 count → Told a b (λ _ _. Extends j0 j1 (All ReadsLog))
-reads_log a b j0 j1 count read = told_map a b read (λ x y made. told_map j0 j1 made (λ i j p. (
-  p.0,
-  p.1,
-  made_reads (records_reads 1 (records_of x) count) p.0 (records_read_log (records_of x) count) p.2,
-)))
-
--- and no call behind them
-pub read_nothing : (a b c : Option (List ℕ)) (j0 j1 j2 : Option (List Call)) (count : ℕ) → RecordsRead a b j0 j1 count → Kept b c → Extends j1 j2 (AreMade [])
-    → Told a c (λ _ _. Extends j0 j2 (All ReadsLog))
-read_nothing a b c j0 j1 j2 count read kept none = told_both a b c (reads_log a b j0 j1 count read) kept (λ x y z calls same.
-    extends_both (All ReadsLog) (AreMade []) (All ReadsLog) j0 j1 j2 calls none (λ made rest reads later. All-append ReadsLog made rest reads (made_reads [] rest (All-nil ReadsLog) later)))
-
--- the records that are left lead to what all lead to
-left_replays : (s : State) (count : ℕ) (bytes : List ℕ) (end : Recovery) → Replayed s count bytes → Replays empty (records_of bytes) end → Replays s (drop count (records_of bytes)) end
-left_replays s count bytes end replayed all =
-    let some = replays_some s (drop count (records_of bytes)) in
-    subst (λ (e : Recovery). Replays s (drop count (records_of bytes)) e) (replays_one empty (records_of bytes) some.0 end (replayed.from some.0 some.1) all) some.1
-
--- a read of the next record failed, which doesn't stand behind one that is damage
-pub read_fails : (a b c : Option (List ℕ)) (j0 j1 j2 : Option (List Call)) (s : State) (log : Place) → ToldReplayed a b s log.read → RecordsRead a b j0 j1 log.read → IfSome b (Holds log) → Kept b c
-    → IfSome b (λ _. s.span ≡ log.next) → log.file ≡ 1 → Told b c (λ was _. Extends j1 j2 (FailAmong (record_reads log.file log.next (length_of (drop (log.next + 1) was)))))
-    → Told a c (λ was _. (file offset : ℕ) → Replays empty (records_of was) (Damaged file offset) → Extends j0 j2 (FailAtRecord [] (records_of was) offset))
-read_fails a b c j0 j1 j2 s log replayed read holds kept at one fault =
-    let Read = λ (was : List ℕ). Extends j0 j1 (AreMade (records_reads 1 (records_of was) log.read)) in
-    let Fails = λ (was : List ℕ). Extends j1 j2 (FailAmong (record_reads log.file log.next (length_of (drop (log.next + 1) was)))) in
-    told_both a b c (told_also (λ was now. (now ≡ was) × Replayed s log.read was) (λ was _. Read was) a b replayed read)
-    (told_also (λ was _. Fails was) (λ was _. Holds log was × (s.span ≡ log.next)) b c fault
-    (told_also (λ was _. Holds log was) (λ _ _. s.span ≡ log.next) b c (told_holds b c (Holds log) kept holds) (told_holds b c (λ _. s.span ≡ log.next) kept at))) (λ x y z p q file offset replays.
-    let rs = records_of x in
-    let there = subst (Holds log) p.0.0 q.1.0 in
-    let bad = damaged_record rs file offset replays in
-    let far = damage_behind s (drop log.read rs) file offset (left_replays s log.read x (Damaged file offset) p.0.1 replays) in
-    let order : log.read ≤ bad.number = no_earlier rs log.read bad.number bad.bytes bad.got (omega (arith, far, bad.place, q.1.1, there.next)) in
-    let next = get_or rs log.read [] in
-    let got : slice_get rs log.read ≡ Some next = slice_get-get_or rs log.read [] (omega (arith, order, slice_get_within rs bad.number bad.bytes bad.got)) in
-    let size : length_of (drop (log.next + 1) x) ≡ length next = ap (λ place. length_of (drop (place + 1) x)) there.next ∙ record_length x log.read next got in
-    let list : record_reads log.file log.next (length_of (drop (log.next + 1) x)) ≡ record_reads 1 (records_span (take log.read rs)) (length next) =
-    ap (record_reads log.file log.next) size ∙ next_reads log x next one there got in
-    extends_both (AreMade (records_reads 1 rs log.read)) (FailAmong (record_reads 1 (records_span (take log.read rs)) (length next))) (FailAtRecord [] rs offset) j0 j1 j2 p.1
-    (subst (λ (l : List Call). Extends j1 j2 (FailAmong l)) list (subst Fails p.0.0 q.0)) (λ done more made fail. record {
-      number = bad.number;
-      place = omega (arith, bad.place);
-      fail = fail_more (records_reads 1 rs (suc log.read)) (records_reads 1 rs (suc bad.number)) (done ++ more) (records_front 1 rs (suc log.read) (suc bad.number) (omega (arith, order)))
-          (fail_later (records_reads 1 rs log.read) (record_reads 1 (records_span (take log.read rs)) (length next)) done more made fail);
-    }))
 
 pub fault_opening : (e : LogError) → opening_error e ≡ open_error.DiskFault → e ≡ log_error.DiskFault
 fault_opening log_error.DiskFault is = refl

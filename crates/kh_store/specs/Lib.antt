@@ -3,6 +3,5 @@ pub mod Machine
 pub mod Command
 pub mod State
 pub mod Recovery
-pub mod Damage
 pub mod Store
 pub mod Opening

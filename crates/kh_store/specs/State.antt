@@ -1,6 +1,5 @@
 -- A state of the store, and what commands do to it.
 use Rattle.std.specs.Prelude.{ℕ, ◌+◌, Bool, true, ◌&&◌, nat_le, List, [], ◌∷◌, ◌++◌, length, if◌then◌else◌}
-use Rattle.kh_log.specs.Log.{with_records}
 use Rattle.kh_term.specs.declared.tree.TermTree.{TermTree}
 use Rattle.kh_text_defs.specs.Shown.{shown_line}
 use Rattle.kh_read.specs.declared.form.Form.{Form}
@@ -41,10 +40,6 @@ abbrev pub records_logged : Form → State → List (List ℕ)
 records_logged (form.Put path number) s = if store_logs (form.Put path number) s then put_bytes path number ∷ [] else []
 records_logged (form.Get path) s = []
 
--- the bytes of the log after a command
-abbrev pub log_with : Form → State → List ℕ → List ℕ
-log_with form s log = with_records s.span (records_logged form s) log
-
 -- the reply to a command
 abbrev pub store_reply : Form → State → TermTree
 store_reply form s = if log_has_room form s.span then reply_to form s.nodes else store_full
@@ -57,11 +52,6 @@ store_after form s = if store_logs form s then record { nodes = after form s.nod
 abbrev pub state_after : List Form → State → State
 state_after [] s = s
 state_after (form ∷ forms) s = state_after forms (store_after form s)
-
--- the bytes of the log after them
-abbrev pub log_after : List Form → State → List ℕ → List ℕ
-log_after [] s log = log
-log_after (form ∷ forms) s log = log_after forms (store_after form s) (log_with form s log)
 
 -- the replies to them, one line each
 abbrev pub text_of : List Form → State → List ℕ

@@ -15,7 +15,8 @@ use std::alloc::Global;
 /// The bytes of a put as it is logged.
 pub fn pack_put(alloc: Global, path: &Path, number: i128) -> Result<Vec<u8>, NoMemory>
     ensures bytes { IfOk result (λ bytes. bytes.items ≡ put_bytes path.now number) }
-    ensures put { IsTrue (is_atom_path path.now) → IfOk result (λ bytes. IsPut bytes.items path.now number) }
+    ensures put { IsTrue (is_atom_path path.now)
+        → IfOk result (λ bytes. IsPut bytes.items path.now number) }
 {
     let _fits = path.names();
     let term = put_term(alloc, path, number)?;
@@ -39,7 +40,8 @@ fn put_term(alloc: Global, path: &Path, number: i128) -> Result<Term, NoMemory>
 /// The put that these bytes are; None where they are none.
 pub fn read_put(alloc: Global, bytes: &[u8]) -> Result<Option<(Path, i128)>, NoMemory>
     ensures found { IfOk result (λ read. IfSome read (λ put. IsPut bytes.now put.0 put.1)) }
-    ensures none { IfOk result (λ read. IfNone read ((path : List Name) (number : ℤ) → IsPut bytes.now path number → ⊥)) }
+    ensures none { IfOk result (λ read. IfNone read
+        ((path : List Name) (number : ℤ) → IsPut bytes.now path number → ⊥)) }
 {
     match unpack(alloc, bytes, 0) {
         Ok((term, end)) => {
@@ -55,8 +57,11 @@ pub fn read_put(alloc: Global, bytes: &[u8]) -> Result<Option<(Path, i128)>, NoM
 
 // The put that a tree is the command of, if it is one.
 fn put_of(alloc: Global, node: &TermTree) -> Result<Option<(Path, i128)>, NoMemory>
-    ensures found { IfOk result (λ read. IfSome read (λ put. (node.now ≡ put_command put.0 put.1) × IsTrue (is_atom_path put.0))) }
-    ensures none { IfOk result (λ read. IfNone read ((path : List Name) (number : ℤ) → node.now ≡ put_command path number → IsTrue (is_atom_path path) → ⊥)) }
+    ensures found { IfOk result (λ read. IfSome read
+        (λ put. (node.now ≡ put_command put.0 put.1) × IsTrue (is_atom_path put.0))) }
+    ensures none { IfOk result (λ read. IfNone read
+        ((path : List Name) (number : ℤ) → node.now ≡ put_command path number
+        → IsTrue (is_atom_path path) → ⊥)) }
 {
     match node {
         TermTree::Tuple(parts) => put_in(alloc, parts.as_slice()),
@@ -66,8 +71,11 @@ fn put_of(alloc: Global, node: &TermTree) -> Result<Option<(Path, i128)>, NoMemo
 
 // The put whose command has these parts, if there is one.
 fn put_in(alloc: Global, parts: &[TermTree]) -> Result<Option<(Path, i128)>, NoMemory>
-    ensures found { IfOk result (λ read. IfSome read (λ put. (parts.now ≡ put_parts put.0 put.1) × IsTrue (is_atom_path put.0))) }
-    ensures none { IfOk result (λ read. IfNone read ((path : List Name) (number : ℤ) → parts.now ≡ put_parts path number → IsTrue (is_atom_path path) → ⊥)) }
+    ensures found { IfOk result (λ read. IfSome read
+        (λ put. (parts.now ≡ put_parts put.0 put.1) × IsTrue (is_atom_path put.0))) }
+    ensures none { IfOk result (λ read. IfNone read
+        ((path : List Name) (number : ℤ) → parts.now ≡ put_parts path number
+        → IsTrue (is_atom_path path) → ⊥)) }
 {
     match parts {
         [first, place, number, last] => {
@@ -132,8 +140,10 @@ fn integer_of(node: &TermTree) -> Option<i128>
 
 // The path that a tree is, where it has 1 to 32 names, each an atom.
 fn path_of(alloc: Global, node: &TermTree) -> Result<Option<Path>, NoMemory>
-    ensures found { IfOk result (λ read. IfSome read (λ path. (node.now ≡ path_tree path) × IsTrue (is_atom_path path))) }
-    ensures none { IfOk result (λ read. IfNone read ((path : List Name) → node.now ≡ path_tree path → IsTrue (is_atom_path path) → ⊥)) }
+    ensures found { IfOk result (λ read. IfSome read
+        (λ path. (node.now ≡ path_tree path) × IsTrue (is_atom_path path))) }
+    ensures none { IfOk result (λ read. IfNone read
+        ((path : List Name) → node.now ≡ path_tree path → IsTrue (is_atom_path path) → ⊥)) }
 {
     match node {
         TermTree::List(parts, tail) => {
@@ -148,8 +158,10 @@ fn path_of(alloc: Global, node: &TermTree) -> Result<Option<Path>, NoMemory>
 
 // The path that trees are the names of, where it has 1 to 32, each an atom.
 fn path_in(alloc: Global, parts: &[TermTree]) -> Result<Option<Path>, NoMemory>
-    ensures found { IfOk result (λ read. IfSome read (λ path. (parts.now ≡ map name_tree path) × IsTrue (is_atom_path path))) }
-    ensures none { IfOk result (λ read. IfNone read ((path : List Name) → parts.now ≡ map name_tree path → IsTrue (is_atom_path path) → ⊥)) }
+    ensures found { IfOk result (λ read. IfSome read
+        (λ path. (parts.now ≡ map name_tree path) × IsTrue (is_atom_path path))) }
+    ensures none { IfOk result (λ read. IfNone read
+        ((path : List Name) → parts.now ≡ map name_tree path → IsTrue (is_atom_path path) → ⊥)) }
 {
     if parts.is_empty() {
         return Ok(None);
@@ -162,8 +174,12 @@ fn path_in(alloc: Global, parts: &[TermTree]) -> Result<Option<Path>, NoMemory>
 
 // The names that trees are, where each is an atom.
 fn names_of(alloc: Global, parts: &[TermTree]) -> Result<Option<Vec<Name>>, NoMemory>
-    ensures found { IfOk result (λ read. IfSome read (λ names. (parts.now ≡ map name_tree names.items) × IsTrue (list_all is_atom names.items))) }
-    ensures none { IfOk result (λ read. IfNone read ((names : List Name) → parts.now ≡ map name_tree names → IsTrue (list_all is_atom names) → ⊥)) }
+    ensures found { IfOk result (λ read. IfSome read
+        (λ names. (parts.now ≡ map name_tree names.items)
+        × IsTrue (list_all is_atom names.items))) }
+    ensures none { IfOk result (λ read. IfNone read
+        ((names : List Name) → parts.now ≡ map name_tree names → IsTrue (list_all is_atom names)
+        → ⊥)) }
 {
     let mut names = Vec::new(alloc);
     for part in parts {
@@ -177,8 +193,10 @@ fn names_of(alloc: Global, parts: &[TermTree]) -> Result<Option<Vec<Name>>, NoMe
 
 // The name that a tree is, where it is an atom.
 fn name_of(alloc: Global, node: &TermTree) -> Result<Option<Name>, NoMemory>
-    ensures found { IfOk result (λ read. IfSome read (λ name. (node.now ≡ name_tree name) × IsTrue (is_atom name))) }
-    ensures none { IfOk result (λ read. IfNone read ((name : Name) → node.now ≡ name_tree name → IsTrue (is_atom name) → ⊥)) }
+    ensures found { IfOk result (λ read. IfSome read
+        (λ name. (node.now ≡ name_tree name) × IsTrue (is_atom name))) }
+    ensures none { IfOk result (λ read. IfNone read
+        ((name : Name) → node.now ≡ name_tree name → IsTrue (is_atom name) → ⊥)) }
 {
     match node {
         TermTree::Atom(text) => Ok(Some(Name::Atom(text.copy(alloc)?))),

@@ -40,8 +40,10 @@ impl Tree {
 
     // Sets the data of a node, where there is room.
     fn apply_put(&mut self, alloc: Global, path: Path, number: i128) -> Result<Applied, NoMemory>
-        ensures reply { IfOk result (λ applied. applied.reply.node ≡ reply_to (form.Put path number) self.old) }
-        ensures logged { IfOk result (λ applied. applied.logged ≡ is_logged (form.Put path number) self.old) }
+        ensures reply { IfOk result (λ applied. applied.reply.node ≡ reply_to
+            (form.Put path number) self.old) }
+        ensures logged { IfOk result (λ applied. applied.logged ≡ is_logged
+            (form.Put path number) self.old) }
         ensures after { OnOk result (self.new ≡ after (form.Put path number) self.old) }
         ensures err { OnErr result (self.new ≡ self.old) }
     {
@@ -92,7 +94,8 @@ fn pair(alloc: Global, first: Term, second: Term) -> Result<Term, NoMemory>
 
 /// A tuple of three.
 pub fn triple(alloc: Global, first: Term, second: Term, third: Term) -> Result<Term, NoMemory>
-    ensures { IfOk result (λ term. term.node ≡ tree.Tuple (first.node ∷ second.node ∷ third.node ∷ [])) }
+    ensures { IfOk result (λ term. term.node ≡ tree.Tuple
+        (first.node ∷ second.node ∷ third.node ∷ [])) }
 {
     let mut parts = Terms::new(alloc);
     parts.push(first)?;
@@ -110,7 +113,8 @@ fn ok_with(alloc: Global, value: Term) -> Result<Term, NoMemory>
 
 // The map of a path, as errors give it.
 fn node_path(alloc: Global, path: &Path) -> Result<Term, NoMemory>
-    ensures { IfOk result (λ term. term.node ≡ tree.Map ((word (codes "node_path"), path_tree path.now) ∷ [])) }
+    ensures { IfOk result (λ term. term.node ≡ tree.Map
+        ((word (codes "node_path"), path_tree path.now) ∷ [])) }
 {
     let key = word(alloc, "node_path")?;
     let value = path_term(alloc, path)?;

@@ -1,14 +1,12 @@
 //! The records of a log are applied, one after another.
-ghost use Rattle.std.specs.Prelude.{◌≡◌, ◌≢◌, ◌≤◌, ◌+◌, ℕ, nat_le, [], length, All, IfSome, IfOk, OnOk, Ok, Err, true, false};
-ghost use Rattle.kh_io.specs.Told.{Told, Kept, Extends, Rose};
-ghost use Rattle.kh_io.specs.Disk.{FilesStay, LeavesOnly};
+ghost use Rattle.std.specs.Prelude.{◌≡◌, ◌+◌, ℕ, nat_le, length, IfSome, IfOk, OnOk, Ok, Err, true, false};
+ghost use Rattle.kh_io.specs.Frames.{FileTold, Asks, DiskCause};
 ghost use Rattle.kh_log.specs.Records.{records_of};
-ghost use Rattle.kh_log.specs.Log.{Holds, Reading};
+ghost use Rattle.kh_log.specs.Log.{Holds};
 ghost use Rattle.kh_store.specs.declared.store.OpenError.TheVariants as open_error;
 ghost use Rattle.kh_store.specs.State.{empty, log_limit};
 ghost use Rattle.kh_store.specs.Recovery.{Recovered, Damaged, IsNoRecord, Replays};
-ghost use Rattle.kh_store.specs.Damage.{FailAtRecord};
-ghost use Rattle.kh_store.specs.Opening.{IsRecord, ReadsLog};
+ghost use Rattle.kh_store.specs.Opening.{IsRecord, IsUnread};
 
 use crate::command::read_put;
 use crate::store::OpenError;
@@ -32,8 +30,11 @@ pub fn has_room(span: u64, length: usize) -> bool
 
 // Applies a record that stands behind so many bytes of the log. Answers false where the store wouldn't have logged it.
 fn apply_record(alloc: Global, tree: &mut Tree, span: u64, bytes: &[u8]) -> Result<bool, NoMemory>
-    ensures applied { result ≡ Ok true → IsRecord bytes.now (record { nodes = tree.old; span = span }) (record { nodes = tree.new; span = span + 5 + length bytes.now }) }
-    ensures refused { result ≡ Ok false → IsNoRecord bytes.now (record { nodes = tree.old; span = span }) }
+    ensures applied { result ≡ Ok true
+        → IsRecord bytes.now (record { nodes = tree.old; span = span })
+        (record { nodes = tree.new; span = span + 5 + length bytes.now }) }
+    ensures refused { result ≡ Ok false
+        → IsNoRecord bytes.now (record { nodes = tree.old; span = span }) }
 {
     let Some((path, number)) = read_put(alloc, bytes)? else {
         return Ok(false);
@@ -47,33 +48,20 @@ fn apply_record(alloc: Global, tree: &mut Tree, span: u64, bytes: &[u8]) -> Resu
 
 /// Applies the records of a log in order, from the root alone. Answers `Damaged` at the first that the store wouldn't have logged.
 pub fn replay<H: Host>(alloc: Global, host: &mut H, log: &mut Log) -> Result<Tree, OpenError>
-    requires file { log.old.file ≡ 1 }
-    requires none_read { log.old.read ≡ 0 }
-    requires found { IfSome (H.seen host.old 1) (Holds log.old) }
-    ensures recovered { IfOk result (λ tree. Told (H.seen host.old 1) (H.seen host.new 1)
-        (λ was _. Replays empty (records_of was) (Recovered (record { nodes = tree; span = log.new.last })))) }
+    requires { IsUnread log.old (H.view host.old) }
+    ensures recovered { IfOk result (λ tree. FileTold 1 (H.view host.old) (H.view host.new)
+        (λ was _. Replays empty (records_of was)
+        (Recovered (record { nodes = tree; span = log.new.last })))) }
     ensures damaged { (file offset : ℕ) → result ≡ Err (open_error.Damaged file offset)
-        → Told (H.seen host.old 1) (H.seen host.new 1) (λ was _. Replays empty (records_of was) (Damaged file offset)) }
+        → FileTold 1 (H.view host.old) (H.view host.new)
+        (λ was _. Replays empty (records_of was) (Damaged file offset)) }
     ensures all_read { OnOk result (log.new.read ≡ log.new.records) }
     ensures file { log.new.file ≡ log.old.file }
     ensures last { log.new.last ≡ log.old.last }
-    ensures holds { IfSome (H.seen host.new 1) (Holds log.new) }
-    ensures files { FilesStay (H.seen host.old) (H.seen host.new) (H.image host.old) (H.image host.new) }
-    ensures any_moment { LeavesOnly (H.moment host.old) (H.moment host.new) (H.left_since host.old) (H.left_since host.new) (Reading (H.image host.old) (H.stamp host.old)) }
-    ensures fault { result ≡ Err open_error.DiskFault → Rose (H.disk_faults host.old) (H.disk_faults host.new) }
-    ensures no_fault { result ≢ Err open_error.DiskFault → H.disk_faults host.new ≡ H.disk_faults host.old }
-    ensures faults_stand { H.disk_faults host.old ≤ H.disk_faults host.new }
-    ensures stamp { H.stamp host.new ≡ H.stamp host.old }
-    ensures input { Kept (H.left host.old) (H.left host.new) }
-    ensures sink { Kept (H.given host.old) (H.given host.new) }
-    ensures read_faults { H.read_faults host.new ≡ H.read_faults host.old }
-    ensures write_faults { H.write_faults host.new ≡ H.write_faults host.old }
-    ensures calls { OnOk result (Told (H.seen host.old 1) (H.seen host.new 1) (λ _ _. Extends (H.journal host.old) (H.journal host.new) (All ReadsLog))) }
-    ensures calls_damaged { (file offset : ℕ) → result ≡ Err (open_error.Damaged file offset)
-        → Told (H.seen host.old 1) (H.seen host.new 1) (λ _ _. Extends (H.journal host.old) (H.journal host.new) (All ReadsLog)) }
-    // Where the disk fails and a record is damage, the calls are the first reads of the records in order, none behind the damaged one.
-    ensures calls_at_fault { result ≡ Err open_error.DiskFault → Told (H.seen host.old 1) (H.seen host.new 1) (λ was _. (file offset : ℕ)
-        → Replays empty (records_of was) (Damaged file offset) → Extends (H.journal host.old) (H.journal host.new) (FailAtRecord [] (records_of was) offset)) }
+    ensures holds { IfSome ((H.view host.new).seen 1) (Holds log.new) }
+    ensures asks { Asks (H.view host.old) (H.view host.new) }
+    ensures cause { DiskCause (result ≡ Err open_error.DiskFault) (H.view host.old)
+        (H.view host.new) }
 {
     let mut tree = Tree::new(alloc)?;
     let mut span = 0;

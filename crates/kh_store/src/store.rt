@@ -1,18 +1,17 @@
 //! The store: the tree, and the log that keeps it over a crash.
-ghost use Rattle.std.specs.Prelude.{◌≡◌, ◌≢◌, ◌≤◌, ℕ, IsTrue, IfOk, OnOk, Err};
-ghost use Rattle.kh_io.specs.Told.{Told, Kept, Extends, Rose};
-ghost use Rattle.kh_io.specs.Disk.{LeavesOnly};
-ghost use Rattle.kh_log.specs.Calls.{Grows};
+ghost use Rattle.std.specs.Prelude.{◌≡◌, ◌≢◌, ◌<◌, ◌++◌, ℕ, IsTrue, IfOk, OnOk, Err};
+ghost use Rattle.kh_io.specs.Told.{Kept};
+ghost use Rattle.kh_io.specs.Frames.{FileTold, FilesTold, AreSafe, During, StreamsStay, WritesFile, DiskCause};
+ghost use Rattle.kh_log.specs.Records.{records_of};
 ghost use Rattle.kh_read.specs.declared.form.Form.{Form};
 ghost use Rattle.kh_read.specs.declared.form.Form.TheVariants as form;
 ghost use Rattle.kh_store.specs.declared.store.OpenError.TheVariants as open_error;
 ghost use Rattle.kh_store.specs.declared.store.StoreError.TheVariants as store_error;
-ghost use Rattle.kh_store.specs.Opening.{opening_error, OpenedBy};
+ghost use Rattle.kh_store.specs.Opening.{opening_error};
 ghost use Rattle.kh_store.specs.Command.{is_command, is_atom_path};
-ghost use Rattle.kh_store.specs.State.{store_logs, log_with, store_reply, store_after};
+ghost use Rattle.kh_store.specs.State.{store_logs, records_logged, store_reply, store_after};
 ghost use Rattle.kh_store.specs.Recovery.{Recovered, Damaged, Recovers};
-ghost use Rattle.kh_store.specs.Damage.{FailBefore};
-ghost use Rattle.kh_store.specs.Store.{FilesTold, state_of, Stands, AreSafe, Begun, GainsRecords, MaybeLogs, Opening, ReadsAsBefore, WritesLogAlone, Executing};
+ghost use Rattle.kh_store.specs.Store.{state_of, Stands, StaysOrShort, Begun, Opening, Executing};
 
 use crate::command::pack_put;
 use crate::machine::store_full;
@@ -115,28 +114,23 @@ impl Model for Store {
 impl Store {
     /// Opens the store that is in the files of a host. Answers `Damaged` where they recover to no state.
     pub fn open<H: Host>(alloc: Global, host: &mut H) -> Result<Store, OpenError>
-        ensures recovered { IfOk result (λ store. FilesTold (H.seen host.old) (H.seen host.new) (λ files. Recovers files (Recovered (state_of store)))) }
-        ensures damaged { (file offset : ℕ) → result ≡ Err (open_error.Damaged file offset) → FilesTold (H.seen host.old) (H.seen host.new) (λ files. Recovers files (Damaged file offset)) }
-        ensures stands { IfOk result (λ store. Stands store (H.seen host.new 1) (H.image host.new 1)) }
-        ensures safe { result ≢ Err open_error.DiskFault → AreSafe (H.seen host.new) (H.image host.new) }
-        ensures begun { result ≢ Err open_error.DiskFault → Told (H.seen host.old 1) (H.seen host.new 1) Begun }
-        ensures reads { ReadsAsBefore (H.seen host.old) (H.seen host.new) }
-        ensures files { WritesLogAlone (H.seen host.old) (H.seen host.new) (H.image host.old) (H.image host.new) (H.moment host.old) (H.moment host.new) (H.left_since host.old) (H.left_since host.new) }
-        ensures any_moment { LeavesOnly (H.moment host.old) (H.moment host.new) (H.left_since host.old) (H.left_since host.new) (Opening (H.seen host.old) (H.image host.old) (H.stamp host.old)) }
-        ensures fault { result ≡ Err open_error.DiskFault → Rose (H.disk_faults host.old) (H.disk_faults host.new) }
-        ensures no_fault { result ≢ Err open_error.DiskFault → H.disk_faults host.new ≡ H.disk_faults host.old }
-        ensures faults_stand { H.disk_faults host.old ≤ H.disk_faults host.new }
-        ensures stamp { H.stamp host.new ≡ H.stamp host.old }
-        ensures input { Kept (H.left host.old) (H.left host.new) }
-        ensures sink { Kept (H.given host.old) (H.given host.new) }
-        ensures read_faults { H.read_faults host.new ≡ H.read_faults host.old }
-        ensures write_faults { H.write_faults host.new ≡ H.write_faults host.old }
-        // All files are synced, a log is begun, and then file 1 is read.
-        ensures calls { OnOk result (Told (H.seen host.old 1) (H.seen host.new 1) (λ was _. Extends (H.journal host.old) (H.journal host.new) (OpenedBy was))) }
-        ensures calls_damaged { (file offset : ℕ) → result ≡ Err (open_error.Damaged file offset) → Told (H.seen host.old 1) (H.seen host.new 1) (λ was _. Extends (H.journal host.old) (H.journal host.new) (OpenedBy was)) }
-        // Where the files are damaged, the disk fails before that is met.
-        ensures calls_at_fault { result ≡ Err open_error.DiskFault → FilesTold (H.seen host.old) (H.seen host.new)
-            (λ files. (file offset : ℕ) → Recovers files (Damaged file offset) → Extends (H.journal host.old) (H.journal host.new) (FailBefore files.l0 offset)) }
+        ensures recovered { IfOk result
+            (λ store. FilesTold (H.view host.old) (H.view host.new)
+            (λ files. Recovers files (Recovered (state_of store)))) }
+        ensures damaged { (file offset : ℕ) → result ≡ Err (open_error.Damaged file offset)
+            → FilesTold (H.view host.old) (H.view host.new)
+            (λ files. Recovers files (Damaged file offset)) }
+        ensures stands { IfOk result (λ store. Stands store (H.view host.new)) }
+        ensures safe { result ≢ Err open_error.DiskFault → AreSafe (H.view host.new) }
+        ensures begun { result ≢ Err open_error.DiskFault
+            → FileTold 1 (H.view host.old) (H.view host.new) Begun }
+        ensures reads { FileTold 1 (H.view host.old) (H.view host.new) StaysOrShort }
+        ensures others { (file : ℕ) → file < 4 → file ≢ 1
+            → Kept ((H.view host.old).seen file) ((H.view host.new).seen file) }
+        ensures during { During (Opening (H.view host.old)) (H.view host.old) (H.view host.new) }
+        ensures streams { StreamsStay (H.view host.old) (H.view host.new) }
+        ensures cause { DiskCause (result ≡ Err open_error.DiskFault) (H.view host.old)
+            (H.view host.new) }
     {
         sync_all(host)?;
         begin_log(host)?;
@@ -147,27 +141,23 @@ impl Store {
 
     /// Executes a command, and gives its reply once it is safe in the log.
     pub fn execute<H: Host>(&mut self, host: &mut H, form: Form) -> Result<Term, StoreError>
-        requires stands { Stands self.old (H.seen host.old 1) (H.image host.old 1) }
+        requires stands { Stands self.old (H.view host.old) }
         requires command { IsTrue (is_command form) }
         ensures reply { IfOk result (λ reply. reply.node ≡ store_reply form (state_of self.old)) }
         ensures after { OnOk result (state_of self.new ≡ store_after form (state_of self.old)) }
-        ensures stands { OnOk result (Stands self.new (H.seen host.new 1) (H.image host.new 1)) }
-        ensures any_moment { LeavesOnly (H.moment host.old) (H.moment host.new) (H.left_since host.old) (H.left_since host.new) (Executing form (state_of self.old) (H.stamp host.old)) }
-        ensures no_memory { result ≡ Err store_error.NoMemory → (self.new ≡ self.old) × (host.new ≡ host.old) }
-        ensures files { WritesLogAlone (H.seen host.old) (H.seen host.new) (H.image host.old) (H.image host.new) (H.moment host.old) (H.moment host.new) (H.left_since host.old) (H.left_since host.new) }
-        ensures log { result ≢ Err store_error.DiskFault → Told (H.seen host.old 1) (H.seen host.new 1) GainsRecords }
-        ensures logged { OnOk result (Told (H.seen host.old 1) (H.seen host.new 1) (λ was now. now ≡ log_with form (state_of self.old) was)) }
-        ensures logged_in_doubt { result ≡ Err store_error.DiskFault → Told (H.seen host.old 1) (H.seen host.new 1) (MaybeLogs form (state_of self.old)) }
-        ensures in_doubt { result ≡ Err store_error.DiskFault → IsTrue (store_logs form (state_of self.old)) }
-        ensures fault { result ≡ Err store_error.DiskFault → Rose (H.disk_faults host.old) (H.disk_faults host.new) }
-        ensures no_fault { OnOk result (H.disk_faults host.new ≡ H.disk_faults host.old) }
-        ensures faults_stand { H.disk_faults host.old ≤ H.disk_faults host.new }
-        ensures stamp { H.stamp host.new ≡ H.stamp host.old }
-        ensures input { Kept (H.left host.old) (H.left host.new) }
-        ensures sink { Kept (H.given host.old) (H.given host.new) }
-        ensures read_faults { H.read_faults host.new ≡ H.read_faults host.old }
-        ensures write_faults { H.write_faults host.new ≡ H.write_faults host.old }
-        ensures grows { Grows (H.journal host.old) (H.journal host.new) }
+        ensures stands { OnOk result (Stands self.new (H.view host.new)) }
+        // The log gains the record of a command that is logged.
+        ensures added { OnOk result (FileTold 1 (H.view host.old) (H.view host.new)
+            (λ was now. records_of now ≡ records_of was ++ records_logged form
+            (state_of self.old))) }
+        ensures no_memory { result ≡ Err store_error.NoMemory → (self.new ≡ self.old)
+            × (host.new ≡ host.old) }
+        ensures in_doubt { result ≡ Err store_error.DiskFault
+            → IsTrue (store_logs form (state_of self.old)) }
+        ensures writes { WritesFile 1 (Executing form (state_of self.old) (H.view host.old).stamp)
+            (H.view host.old) (H.view host.new) }
+        ensures cause { DiskCause (result ≡ Err store_error.DiskFault) (H.view host.old)
+            (H.view host.new) }
     {
         match form {
             Form::Get(path) => Ok(self.tree.apply(self.alloc, Form::Get(path))?.reply),
@@ -182,27 +172,25 @@ impl Store {
         path: Path,
         number: i128,
     ) -> Result<Term, StoreError>
-        requires stands { Stands self.old (H.seen host.old 1) (H.image host.old 1) }
+        requires stands { Stands self.old (H.view host.old) }
         requires command { IsTrue (is_atom_path path) }
-        ensures reply { IfOk result (λ reply. reply.node ≡ store_reply (form.Put path number) (state_of self.old)) }
-        ensures after { OnOk result (state_of self.new ≡ store_after (form.Put path number) (state_of self.old)) }
-        ensures stands { OnOk result (Stands self.new (H.seen host.new 1) (H.image host.new 1)) }
-        ensures any_moment { LeavesOnly (H.moment host.old) (H.moment host.new) (H.left_since host.old) (H.left_since host.new) (Executing (form.Put path number) (state_of self.old) (H.stamp host.old)) }
-        ensures no_memory { result ≡ Err store_error.NoMemory → (self.new ≡ self.old) × (host.new ≡ host.old) }
-        ensures files { WritesLogAlone (H.seen host.old) (H.seen host.new) (H.image host.old) (H.image host.new) (H.moment host.old) (H.moment host.new) (H.left_since host.old) (H.left_since host.new) }
-        ensures log { result ≢ Err store_error.DiskFault → Told (H.seen host.old 1) (H.seen host.new 1) GainsRecords }
-        ensures logged { OnOk result (Told (H.seen host.old 1) (H.seen host.new 1) (λ was now. now ≡ log_with (form.Put path number) (state_of self.old) was)) }
-        ensures logged_in_doubt { result ≡ Err store_error.DiskFault → Told (H.seen host.old 1) (H.seen host.new 1) (MaybeLogs (form.Put path number) (state_of self.old)) }
-        ensures in_doubt { result ≡ Err store_error.DiskFault → IsTrue (store_logs (form.Put path number) (state_of self.old)) }
-        ensures fault { result ≡ Err store_error.DiskFault → Rose (H.disk_faults host.old) (H.disk_faults host.new) }
-        ensures no_fault { OnOk result (H.disk_faults host.new ≡ H.disk_faults host.old) }
-        ensures faults_stand { H.disk_faults host.old ≤ H.disk_faults host.new }
-        ensures stamp { H.stamp host.new ≡ H.stamp host.old }
-        ensures input { Kept (H.left host.old) (H.left host.new) }
-        ensures sink { Kept (H.given host.old) (H.given host.new) }
-        ensures read_faults { H.read_faults host.new ≡ H.read_faults host.old }
-        ensures write_faults { H.write_faults host.new ≡ H.write_faults host.old }
-        ensures grows { Grows (H.journal host.old) (H.journal host.new) }
+        ensures reply { IfOk result (λ reply. reply.node ≡ store_reply (form.Put path number)
+            (state_of self.old)) }
+        ensures after { OnOk result (state_of self.new ≡ store_after (form.Put path number)
+            (state_of self.old)) }
+        ensures stands { OnOk result (Stands self.new (H.view host.new)) }
+        // The log gains the record of a command that is logged.
+        ensures added { OnOk result (FileTold 1 (H.view host.old) (H.view host.new)
+            (λ was now. records_of now ≡ records_of was ++ records_logged (form.Put path number)
+            (state_of self.old))) }
+        ensures no_memory { result ≡ Err store_error.NoMemory → (self.new ≡ self.old)
+            × (host.new ≡ host.old) }
+        ensures in_doubt { result ≡ Err store_error.DiskFault
+            → IsTrue (store_logs (form.Put path number) (state_of self.old)) }
+        ensures writes { WritesFile 1 (Executing (form.Put path number) (state_of self.old)
+            (H.view host.old).stamp) (H.view host.old) (H.view host.new) }
+        ensures cause { DiskCause (result ≡ Err store_error.DiskFault) (H.view host.old)
+            (H.view host.new) }
     {
         let bytes = pack_put(self.alloc, &path, number)?;
         if !has_room(self.log.end(), bytes.len()) {

@@ -51,7 +51,8 @@ impl Tree {
     /// Answers whether there was room for them; where there wasn't, nothing is changed.
     pub fn put(&mut self, path: Path, number: i128) -> Result<bool, NoMemory>
         ensures room { IfOk result (λ done. done ≡ has_room self.old path number) }
-        ensures done { IfOk result (λ done. self.new ≡ (if done then put self.old path number else self.old)) }
+        ensures done { IfOk result (λ done. self.new ≡
+            (if done then put self.old path number else self.old)) }
         ensures err { OnErr result (self.new ≡ self.old) }
     {
         let parents = parents_of(self.alloc, &path)?;
@@ -105,7 +106,8 @@ fn take_back(nodes: &mut Nodes, path: &Path, made: bool)
 #[tactic(auto, using(crate::proofs::Room::nodes_with_one_set))]
 fn put_at(nodes: &mut Nodes, path: Path, number: i128) -> Result<bool, NoMemory>
     ensures room { IfOk result (λ done. done ≡ fits (with_data nodes.old.entries [] path number)) }
-    ensures done { IfOk result (λ done. nodes.new.entries ≡ (if done then with_data nodes.old.entries [] path number else nodes.old.entries)) }
+    ensures done { IfOk result (λ done. nodes.new.entries ≡
+        (if done then with_data nodes.old.entries [] path number else nodes.old.entries)) }
     ensures err { OnErr result (nodes.new.entries ≡ nodes.old.entries) }
 {
     let added = if nodes.contains_key(&path) { 0 } else { 1 };
@@ -124,8 +126,10 @@ fn put_below(
     path: Path,
     number: i128,
 ) -> Result<bool, NoMemory>
-    ensures room { IfOk result (λ done. done ≡ fits (with_data nodes.old.entries parents.now path number)) }
-    ensures done { IfOk result (λ done. nodes.new.entries ≡ (if done then with_data nodes.old.entries parents.now path number else nodes.old.entries)) }
+    ensures room { IfOk result (λ done. done ≡ fits
+        (with_data nodes.old.entries parents.now path number)) }
+    ensures done { IfOk result (λ done. nodes.new.entries ≡
+        (if done then with_data nodes.old.entries parents.now path number else nodes.old.entries)) }
     ensures err { OnErr result (nodes.new.entries ≡ nodes.old.entries) }
 {
     match parents {

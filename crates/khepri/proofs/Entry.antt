@@ -1,38 +1,43 @@
 -- A run from the files at entry: the store is opened, and then the script is answered, or damage is reported.
-use Rattle.std.proofs.Common.{◌≡◌, ℕ, ◌<◌, List, [], ◌∷◌, ◌++◌, Option, Some, None, refl, sym, ap, subst, ◌∙◌, inl, inr, ◌⊎◌, arith}
-use Rattle.std.specs.Prelude.{IfSome}
+use Rattle.std.proofs.Common.{◌≡◌, ◌≢◌, ℕ, ◌<◌, ◌≤◌, List, [], ◌∷◌, ◌++◌, Option, Some, None, refl, sym, ap, subst, ◌∙◌, inl, inr, ◌⊎◌, arith}
+use Rattle.std.specs.Prelude.{IfSome, IsSome}
+use Rattle.std.proofs.lemmas.Bool.{cases_eq}
 use Rattle.std.proofs.lemmas.List.{append-nil}
 use Rattle.std.proofs.lemmas.Option.{same_Some}
 use Rattle.kh_io.specs.declared.files.Files.{Files}
-use Rattle.kh_io.specs.Call.{Call}
 use Rattle.kh_io.specs.Told.{Told, Kept, Extends, IsFrontOf}
-use Rattle.kh_io.specs.Disk.{file_of, AreImages, TellsFiles, FilesStay, LeavesOnly}
-use Rattle.kh_io.proofs.{both, weakened, told_map, told_both, kept_both, extends_both}
+use Rattle.kh_io.specs.Disk.{file_of, AreImages, TellsFiles}
+use Rattle.kh_io.specs.View.{View}
+use Rattle.kh_io.specs.Frames.{FileTold, FilesTold, FilesStay, StreamsStay, InputStays, During, OfView, Untouched}
+use Rattle.kh_io.proofs.{both, weakened, told_map, told_both, kept_both}
 use Rattle.kh_log.specs.Records.{Content}
 use Rattle.kh_log.proofs.{content_of-short}
 use Rattle.kh_read.specs.declared.form.Form.{Form}
-use Rattle.kh_store.specs.State.{State, empty, state_after, log_after, text_of}
+use Rattle.kh_store.specs.State.{State, empty, text_of}
 use Rattle.kh_store.specs.Recovery.{Recovery, Recovered, Damaged, ends, ReplaysUnless, Recovers}
-use Rattle.kh_store.specs.Store.{FilesTold, IsShort, StaysShort, Begun, InTurn, MaybeLogs, Opening, ReadsAsBefore}
-use Rattle.kh_store.specs.Damage.{FailBefore}
-use Rattle.khepri.specs.Output.{FailInside}
-use Rattle.kh_store.specs.Opening.{OpenedBy}
-use Rattle.khepri.specs.Serving.{OneBehind}
-use Rattle.khepri.specs.Session.{Untouched, KeepsAnswered}
-use Rattle.khepri.specs.Run.{AtEntry, Answered, Never, AsOpened, Ran, Ends, damage_line, Runs, FindsDamage}
-use Rattle.kh_store.proofs.{recovery_one, some_of, told_back, of_told, files_there, opened_takes_nothing, all_left}
-use Rattle.khepri.proofs.Calls.{inside_later}
+use Rattle.kh_store.specs.Store.{IsShort, StaysOrShort, Opening}
+use Rattle.khepri.specs.Session.{KeepsAnswered}
+use Rattle.khepri.specs.Run.{Passed, Keeps, PartAnswered, NotBegun, Ran, Ends, damage_line, Runs, FindsDamage}
+use Rattle.kh_store.proofs.{recovery_one, some_of, told_back, files_there}
 use Rattle.khepri.proofs.Scripts.{script_exists}
-use Rattle.khepri.proofs.Lines.{none_behind}
+use Rattle.khepri.proofs.Running.{Leaves, passed}
 
 -- ---- files that are told
 
 -- a read gives these files
-abbrev pub AreSeen : (ℕ → Option (List ℕ)) → Files → Type 0
-AreSeen seen files = (file : ℕ) → file < 4 → seen file ≡ Some (file_of files file)
+abbrev pub AreSeen : View → Files → Type 0
+AreSeen v files = (file : ℕ) → file < 4 → v.seen file ≡ Some (file_of files file)
 
-pub reads_tell : (seen seen' : ℕ → Option (List ℕ)) → ReadsAsBefore seen seen' → TellsFiles seen' → TellsFiles seen
-reads_tell seen seen' reads tells file lt = told_back _ (seen file) (seen' file) (reads file lt) (tells file lt)
+-- what a read gives over an opening
+pub record Reads (v w : View) : Type 0 where
+  pub log : FileTold 1 v w StaysOrShort
+  pub others : (file : ℕ) → file < 4 → file ≢ 1 → Kept (v.seen file) (w.seen file)
+
+pub reads_tell : (v w : View) → Reads v w → TellsFiles w.seen → TellsFiles v.seen
+reads_tell v w reads tells file lt = elim (cases_eq file 1) [
+  | inl one ↦ subst (λ f. IsSome (v.seen f)) (sym one) (told_back _ (v.seen 1) (w.seen 1) reads.log (tells 1 (omega arith)))
+  | inr other ↦ told_back _ (v.seen file) (w.seen file) (reads.others file lt other) (tells file lt)
+]
 
 -- ---- file 1 holds no log
 
@@ -41,136 +46,129 @@ short_recovers files short =
     let none = content_of-short files.l0 short in
     subst (λ (c : Content). ReplaysUnless c.lacking c.records (Recovered empty)) (sym none) (ends empty)
 
+-- the recovery of files that hold no log
+short_is_empty : (v : View) (files : Files) (found : Recovery) → AreSeen v files → IfSome (v.seen 1) IsShort → Recovers files found → found ≡ Recovered empty
+short_is_empty v files found are short recovers =
+    recovery_one files found (Recovered empty) recovers (short_recovers files (some_of IsShort (v.seen 1) files.l0 (are 1 (omega arith)) short))
+
+apart : (file offset : ℕ) → Damaged file offset ≡ Recovered empty → ⊥
+apart file offset e = cc
+
 -- ---- what a crash leaves while the store is opened
 
--- the recovery of files that hold no log
-short_is_empty : (seen : ℕ → Option (List ℕ)) (files : Files) (found : Recovery) → AreSeen seen files → IfSome (seen 1) IsShort → Recovers files found → found ≡ Recovered empty
-short_is_empty seen files found are short recovers =
-    recovery_one files found (Recovered empty) recovers (short_recovers files (some_of IsShort (seen 1) files.l0 (are 1 (omega arith)) short))
-
-opening_keeps : (seen : ℕ → Option (List ℕ)) (image : ℕ → List ℕ → Type 0) (given : ℕ) (files : Files) (first : State) (forms : List Form)
-    → AreSeen seen files → Recovers files (Recovered first) → (left : Files) (s : ℕ) → Opening seen image given left s
-    → AtEntry image given left s ⊎ KeepsAnswered first forms given left s
-opening_keeps seen image given files first forms are recovers left s opening = elim opening.log [
-  | inl log ↦ inl (all_left image left log opening.others, opening.stamp)
-  | inr short ↦ inr (record {
-    k = 0;
-    within = omega arith;
-    recovers = subst (Recovers left) (sym (short_is_empty seen files (Recovered first) are short.1 recovers)) (short_recovers left short.0);
-    answered = λ j lt begun. absurd (let same = opening.stamp in omega (arith, begun, same));
-  })
+-- with what is left of file 1 that is all
+all_left : (image : ℕ → List ℕ → Type 0) (files : Files) → image 1 files.l0 → ((file : ℕ) → file < 4 → file ≢ 1 → image file (file_of files file)) → AreImages image files
+all_left image files log others file lt = elim (cases_eq file 1) [
+  | inl one ↦ subst (λ f. image f (file_of files f)) (sym one) log
+  | inr other ↦ others file lt other
 ]
 
-damaged_left : (seen : ℕ → Option (List ℕ)) (image : ℕ → List ℕ → Type 0) (given : ℕ) (files : Files) (file offset : ℕ) → AreSeen seen files
-    → Recovers files (Damaged file offset) → (left : Files) (s : ℕ) → Opening seen image given left s → AreImages image left
-damaged_left seen image given files file offset are recovers left s opening = elim opening.log [
-  | inl log ↦ all_left image left log opening.others
-  | inr short ↦ absurd (apart (short_is_empty seen files (Damaged file offset) are short.1 recovers))
+opening_left : (v : View) (files : Files) (first : State) → AreSeen v files → Recovers files (Recovered first) → (left : Files) (s : ℕ) → Opening v left s
+    → AreImages v.image left ⊎ Recovers left (Recovered first)
+opening_left v files first are recovers left s opening = elim opening.own [
+  | inl log ↦ inl (all_left v.image left log opening.others)
+  | inr short ↦ inr (subst (Recovers left) (sym (short_is_empty v files (Recovered first) are short.1 recovers)) (short_recovers left short.0))
 ]
-  where
-    apart : Damaged file offset ≡ Recovered empty → ⊥
-    apart e = cc
+
+-- nothing was given yet
+none_begun : (first : State) (forms : List Form) (from : ℕ) (left : Files) (s : ℕ) → s ≡ from → Recovers left (Recovered first) → KeepsAnswered first forms from left s
+none_begun first forms from left s same recovers = record {
+  k = 0;
+  within = omega arith;
+  recovers = recovers;
+  answered = λ j lt begun. absurd (omega (arith, begun, same));
+}
+
+opening_keeps : (v : View) (files : Files) (first : State) (forms : List Form) → AreSeen v files → Recovers files (Recovered first) → (left : Files) (s : ℕ) → Opening v left s
+    → OfView v left s ⊎ KeepsAnswered first forms v.stamp left s
+opening_keeps v files first forms are recovers left s opening = elim (opening_left v files first are recovers left s opening) [
+  | inl images ↦ inl (record { images = images; stamp = opening.stamp })
+  | inr state ↦ inr (none_begun first forms v.stamp left s opening.stamp state)
+]
+
+damaged_left : (v : View) (files : Files) (file offset : ℕ) → AreSeen v files → Recovers files (Damaged file offset) → (left : Files) (s : ℕ) → Opening v left s → AreImages v.image left
+damaged_left v files file offset are recovers left s opening = elim opening.own [
+  | inl log ↦ all_left v.image left log opening.others
+  | inr short ↦ absurd (apart file offset (short_is_empty v files (Damaged file offset) are short.1 recovers))
+]
 
 -- ---- an open store that answers the script
 
 -- what a crash leaves of it, and of the opening before it
-crash_opened : (first : State) (seen : ℕ → Option (List ℕ)) (image : ℕ → List ℕ → Type 0) (files : Files) (forms : List Form) (stamp m0 m1 m2 : ℕ) (past mid since : ℕ → Files → ℕ → Type 0)
-    → AreSeen seen files → Recovers files (Recovered first) → LeavesOnly m0 m1 past mid (Opening seen image stamp)
-    → LeavesOnly m1 m2 mid since (λ left s. Never left s ⊎ KeepsAnswered first forms stamp left s)
-    → LeavesOnly m0 m2 past since (λ left s. AtEntry image stamp left s ⊎ KeepsAnswered first forms stamp left s)
-crash_opened first seen image files forms stamp m0 m1 m2 past mid since are recovers opening crash =
-    both (weakened opening (opening_keeps seen image stamp files first forms are recovers)) crash (λ left s is. elim is [
-      | inl never ↦ absurd never
-      | inr keeps ↦ inr keeps
+crash_opened : (first : State) (files : Files) (forms : List Form) (u v w : View) → AreSeen u files → Recovers files (Recovered first) → During (Opening u) u v → v.stamp ≡ u.stamp
+    → Leaves first v → Keeps first forms v w → Keeps first forms u w
+crash_opened first files forms u v w are recovers opening same leaves crash =
+    both (weakened opening (opening_keeps u files first forms are recovers)) crash (λ left s is. elim is [
+      | inl of ↦ inr (none_begun first forms u.stamp left s (of.stamp ∙ same) (leaves left of.images))
+      | inr keeps ↦ inr (subst (λ (n : ℕ). KeepsAnswered first forms n left s) same keeps)
     ])
 
--- what becomes of a log that was begun
-begun_then : (P : List ℕ → List ℕ → Type 0) (a b c : Option (List ℕ)) → Told a b Begun → Told b c (InTurn AsOpened P) → Told a c (InTurn Begun P)
-begun_then P a b c begun then = told_both a b c begun then (λ x y z p q. (q.0, subst (Begun x) (sym q.1) p, q.2))
-
--- a file begun anew holds no log as well
-one_is_short : IsShort (0 ∷ [])
-one_is_short = omega arith
-
-as_it_was : (was between now : List ℕ) → Begun was between → (now ≡ between) ⊎ StaysShort between now → (now ≡ was) ⊎ StaysShort was now
-as_it_was was between now (inl found) (inl same) = inl (same ∙ found.1)
-as_it_was was between now (inl found) (inr short) = inr (subst IsShort found.1 short.0, short.1)
-as_it_was was between now (inr begun) (inl same) = inr (begun.0, subst IsShort (sym (same ∙ begun.1)) one_is_short)
-as_it_was was between now (inr begun) (inr short) = inr (begun.0, short.1)
-
--- what was answered
-answered_opened : (first : State) (l0 l1 l2 : Option (List ℕ)) (forms : List Form) (given : List ℕ) → Told l0 l1 Begun
-    → Answered first AsOpened l1 l2 forms given → Answered first Begun l0 l2 forms given
-answered_opened first l0 l1 l2 forms given begun answered = record {
-  text = answered.text;
-  log = begun_then (λ log now. now ≡ log_after forms first log) l0 l1 l2 begun answered.log;
+-- the same run with the opening before it
+abbrev part_opened : (first : State) (files : Files) (forms : List Form) (given : List ℕ) (u v w : View) → AreSeen u files → Recovers files (Recovered first) → During (Opening u) u v
+    → v.stamp ≡ u.stamp → Leaves first v → PartAnswered first forms given v w → PartAnswered first forms given u w
+part_opened first files forms given u v w are recovers opening same leaves part = record {
+  cut = part.cut;
+  front = part.front;
+  text = part.text;
+  crash = crash_opened first files (part.cut.answered ++ part.cut.last) u v w are recovers opening same leaves part.crash;
 }
 
--- the same run with the opening before it
-ran_opened : (first : State) (status : ℕ) (seen : ℕ → Option (List ℕ)) (image image' : ℕ → List ℕ → Type 0) (files : Files) (input rest given : List ℕ)
-    (stamp m0 m1 m2 : ℕ) (past mid since : ℕ → Files → ℕ → Type 0) (l0 l1 l2 : Option (List ℕ)) → AreSeen seen files → Recovers files (Recovered first)
-    → LeavesOnly m0 m1 past mid (Opening seen image stamp) → Told l0 l1 Begun
-    → Ran first status Never AsOpened (record { stamp = stamp; from = m1; to = m2; past = mid; since = since; was = l1; now = l2 }) image' input rest given
-    → Ran first status (AtEntry image stamp) Begun (record { stamp = stamp; from = m0; to = m2; past = past; since = since; was = l0; now = l2 }) image' input rest given
-ran_opened first status seen image image' files input rest given stamp m0 m1 m2 past mid since l0 l1 l2 are recovers opening begun ran = record {
+none_opened : (first : State) (through : Passed) (u v w : View) → Leaves first v → NotBegun first through v w → NotBegun first through u w
+none_opened first through u v w leaves none = record {
+  input = none.input;
+  none = none.none;
+  images = λ files left. elim (none.images files left) [ inl images ↦ inr (leaves files images) | inr state ↦ inr state ];
+}
+
+ran_opened : (first : State) (status : ℕ) (files : Files) (through : Passed) (u v w : View) → AreSeen u files → Recovers files (Recovered first) → During (Opening u) u v
+    → v.stamp ≡ u.stamp → Leaves first v → Ran first status through v w → Ran first status through u w
+ran_opened first status files through u v w are recovers opening same leaves ran = record {
   forms = ran.forms;
   ending = ran.ending;
   script = ran.script;
   front = ran.front;
   how = ran.how;
-  done = λ is. let done = ran.done is in (answered_opened first l0 l1 l2 ran.forms given begun done.0, done.1);
-  syntax = λ is. answered_opened first l0 l1 l2 ran.forms given begun (ran.syntax is);
-  too_long = λ is. answered_opened first l0 l1 l2 ran.forms given begun (ran.too_long is);
-  read_fault = λ is. let fault = ran.read_fault is in (fault.0, fault.1, fault.2, fault.3, fault.4, answered_opened first l0 l1 l2 fault.1 given begun fault.5);
-  write_fault = λ is. begun_then (OneBehind first ran.forms given) l0 l1 l2 begun (ran.write_fault is);
-  no_memory = λ is. begun_then (OneBehind first ran.forms given) l0 l1 l2 begun (ran.no_memory is);
+  done = ran.done;
+  syntax = ran.syntax;
+  too_long = ran.too_long;
+  read_fault = ran.read_fault;
+  write_fault = λ is. part_opened first files ran.forms through.given u v w are recovers opening same leaves (ran.write_fault is);
   disk_fault = λ is. elim (ran.disk_fault is) [
-    | inl none ↦ inl (none.0, none.1, told_both l0 l1 l2 begun none.2 as_it_was)
-    | inr doubt ↦ inr (record {
-      answered = doubt.answered;
-      form = doubt.form;
-      behind = doubt.behind;
-      are = doubt.are;
-      text = doubt.text;
-      logged = doubt.logged;
-      log = begun_then (λ log now. MaybeLogs doubt.form (state_after doubt.answered first) (log_after doubt.answered first log) now) l0 l1 l2 begun doubt.log;
-      crash = crash_opened first seen image files (doubt.answered ++ doubt.form ∷ []) stamp m0 m1 m2 past mid since are recovers opening doubt.crash;
-    })
+    | inl none ↦ inl (none_opened first through u v w leaves none)
+    | inr doubt ↦ inr (part_opened first files ran.forms through.given u v w are recovers opening same leaves doubt.0, doubt.1)
   ];
-  crash = crash_opened first seen image files ran.forms stamp m0 m1 m2 past mid since are recovers opening ran.crash;
+  no_memory = λ is. elim (ran.no_memory is) [
+    | inl none ↦ inl (none_opened first through u v w leaves none)
+    | inr part ↦ inr (part_opened first files ran.forms through.given u v w are recovers opening same leaves part)
+  ];
+  crash = crash_opened first files ran.forms u v w are recovers opening same leaves ran.crash;
   last = ran.last;
 }
 
-ends_opened : (first : State) (status : ℕ) (seen : ℕ → Option (List ℕ)) (image image' : ℕ → List ℕ → Type 0) (files : Files)
-    (left0 left1 left2 sink0 sink1 sink2 : Option (List ℕ)) (stamp m0 m1 m2 : ℕ) (past mid since : ℕ → Files → ℕ → Type 0) (l0 l1 l2 : Option (List ℕ)) → AreSeen seen files
-    → Recovers files (Recovered first) → LeavesOnly m0 m1 past mid (Opening seen image stamp) → Told l0 l1 Begun → Kept left0 left1 → Kept sink0 sink1
-    → Ends first status Never AsOpened (record { stamp = stamp; from = m1; to = m2; past = mid; since = since; was = l1; now = l2 }) image' left1 left2 sink1 sink2
-    → Ends first status (AtEntry image stamp) Begun (record { stamp = stamp; from = m0; to = m2; past = past; since = since; was = l0; now = l2 }) image' left0 left2 sink0 sink2
-ends_opened first status seen image image' files left0 left1 left2 sink0 sink1 sink2 stamp m0 m1 m2 past mid since l0 l1 l2 are recovers opening begun input sink ran =
-    told_both left0 left1 left2 input ran (λ a b c same more. told_both sink0 sink1 sink2 sink more (λ x y z same' given. (
+ends_opened : (first : State) (status : ℕ) (files : Files) (u v w : View) → AreSeen u files → Recovers files (Recovered first) → During (Opening u) u v → StreamsStay u v
+    → Leaves first v → Ends first status v w → Ends first status u w
+ends_opened first status files u v w are recovers opening streams leaves ran =
+    told_both u.left v.left w.left streams.input ran (λ a b c same more. told_both u.given v.given w.given streams.sink more (λ x y z same' given. (
       given.0,
       given.1 ∙ ap (λ (t : List ℕ). t ++ given.0) same',
-      subst (λ (i : List ℕ). Ran first status (AtEntry image stamp) Begun (record { stamp = stamp; from = m0; to = m2; past = past; since = since; was = l0; now = l2 }) image' i c given.0) same
-          (ran_opened first status seen image image' files b c given.0 stamp m0 m1 m2 past mid since l0 l1 l2 are recovers opening begun given.2),
+      subst (λ (i : List ℕ). Ran first status (passed i c given.0) u w) same
+          (ran_opened first status files (passed b c given.0) u v w are recovers opening streams.stamp leaves given.2),
     )))
 
+-- what a run does by what the files at entry recover to
+abbrev pub RunsFrom : ℕ → (v w : View) → Type 0
+RunsFrom status v w = FilesTold v w (λ files. (found : Recovery) → Recovers files found → Runs found status v w)
+
 -- a run over files that recover to a state
-pub runs_opened : (first : State) (status : ℕ) (seen seen' seen2 : ℕ → Option (List ℕ)) (image image' : ℕ → List ℕ → Type 0)
-    (left0 left1 left2 sink0 sink1 sink2 : Option (List ℕ)) (journal0 journal2 : Option (List Call)) (e0 e1 m0 m1 m2 : ℕ) (past mid since : ℕ → Files → ℕ → Type 0)
-    → FilesTold seen seen' (λ files. Recovers files (Recovered first)) → (TellsFiles seen2 → TellsFiles seen') → e1 ≡ e0
-    → LeavesOnly m0 m1 past mid (Opening seen image e0) → Told (seen 1) (seen' 1) Begun → Kept left0 left1 → Kept sink0 sink1
-    → Ends first status Never AsOpened (record { stamp = e1; from = m1; to = m2; past = mid; since = since; was = seen' 1; now = seen2 1 }) image' left1 left2 sink1 sink2
-    → FilesTold seen seen2 (λ files. (found : Recovery) → Recovers files found
-    → Runs found status files (record { stamp = e0; from = m0; to = m2; past = past; since = since; was = seen 1; now = seen2 1 }) image image' seen seen2 left0 left2 sink0 sink2 journal0 journal2)
-runs_opened first status seen seen' seen2 image image' left0 left1 left2 sink0 sink1 sink2 journal0 journal2 e0 e1 m0 m1 m2 past mid since recovered told same opening begun input sink ran = record {
+pub runs_opened : (first : State) (status : ℕ) (u v w : View) → FilesTold u v (λ files. Recovers files (Recovered first)) → (TellsFiles w.seen → TellsFiles v.seen)
+    → During (Opening u) u v → StreamsStay u v → Leaves first v → Ends first status v w → RunsFrom status u w
+runs_opened first status u v w recovered told opening streams leaves ran = record {
   told = λ tells.
       let at_entry = recovered.told (told tells) in (
         at_entry.0,
         at_entry.1,
-        λ found recovers. subst (λ (r : Recovery). Runs r status at_entry.0 (record { stamp = e0; from = m0; to = m2; past = past; since = since; was = seen 1; now = seen2 1 }) image image' seen seen2 left0 left2 sink0 sink2 journal0 journal2)
-            (recovery_one at_entry.0 (Recovered first) found at_entry.2 recovers)
-            (ends_opened first status seen image image' at_entry.0 left0 left1 left2 sink0 sink1 sink2 e0 m0 m1 m2 past mid since (seen 1) (seen' 1) (seen2 1) at_entry.1 at_entry.2 opening begun input sink
-            (subst (λ (e : ℕ). Ends first status Never AsOpened (record { stamp = e; from = m1; to = m2; past = mid; since = since; was = seen' 1; now = seen2 1 }) image' left1 left2 sink1 sink2) same ran)),
+        λ found recovers. subst (λ (r : Recovery). Runs r status u w) (recovery_one at_entry.0 (Recovered first) found at_entry.2 recovers)
+            (ends_opened first status at_entry.0 u v w at_entry.1 at_entry.2 opening streams leaves ran),
       );
 }
 
@@ -183,70 +181,62 @@ kept_unless (Some was) None told other = tt
 kept_unless None None told other = tt
 
 -- a read gives what it gave, where the files are damaged
-damaged_reads : (seen seen' : ℕ → Option (List ℕ)) (files : Files) (file offset : ℕ) → AreSeen seen files → Recovers files (Damaged file offset) → ReadsAsBefore seen seen'
-    → (this : ℕ) → this < 4 → Kept (seen this) (seen' this)
-damaged_reads seen seen' files file offset are recovers reads this lt =
-    kept_unless (seen this) (seen' this) (reads this lt) (λ was now same short.
-    let own : IsShort files.l0 = subst IsShort (same_Some was files.l0 (sym same ∙ ap seen short.0 ∙ are 1 (omega arith))) short.1.0 in
-    apart (recovery_one files (Damaged file offset) (Recovered empty) recovers (short_recovers files own)))
-  where
-    apart : Damaged file offset ≡ Recovered empty → ⊥
-    apart e = cc
+damaged_reads : (v w : View) (files : Files) (file offset : ℕ) → AreSeen v files → Recovers files (Damaged file offset) → Reads v w
+    → (this : ℕ) → this < 4 → Kept (v.seen this) (w.seen this)
+damaged_reads v w files file offset are recovers reads this lt = elim (cases_eq this 1) [
+  | inl one ↦ subst (λ f. Kept (v.seen f) (w.seen f)) (sym one) (kept_unless (v.seen 1) (w.seen 1) reads.log (λ was now same short.
+      let own : IsShort files.l0 = subst IsShort (same_Some was files.l0 (sym same ∙ are 1 (omega arith))) short.0 in
+      apart file offset (recovery_one files (Damaged file offset) (Recovered empty) recovers (short_recovers files own))))
+  | inr other ↦ reads.others this lt other
+]
 
 -- the report of damaged files, from its parts
-pub runs_damaged : (file offset status : ℕ) (seen seen' seen2 : ℕ → Option (List ℕ)) (image image1 image' : ℕ → List ℕ → Type 0)
-    (left0 left1 left2 sink0 sink1 sink2 : Option (List ℕ)) (journal0 journal1 journal2 : Option (List Call)) (e0 e1 e2 m0 m1 m2 : ℕ) (past mid since : ℕ → Files → ℕ → Type 0)
-    → FilesTold seen seen' (λ files. Recovers files (Damaged file offset)) → ReadsAsBefore seen seen' → FilesStay seen' seen2 image1 image'
-    → LeavesOnly m0 m1 past mid (Opening seen image e0) → LeavesOnly m1 m2 mid since (Untouched image1 e1 e2)
-    → ((files : Files) → AreImages image1 files → mid m0 files e1) → Kept left0 left1 → Kept left1 left2 → Kept sink0 sink1
-    → Extends sink1 sink2 (λ given. IsFrontOf given (damage_line file offset) × (status ≡ 1 → given ≡ damage_line file offset)) → (status ≡ 1) ⊎ ((status ≡ 4) ⊎ (status ≡ 6))
-    → Told (seen 1) (seen' 1) (λ was _. Extends journal0 journal1 (OpenedBy was)) → (status ≡ 4 → Extends journal1 journal2 (FailInside (damage_line file offset)))
-    → FilesTold seen seen2 (λ files. (found : Recovery) → Recovers files found
-    → Runs found status files (record { stamp = e0; from = m0; to = m2; past = past; since = since; was = seen 1; now = seen2 1 }) image image' seen seen2 left0 left2 sink0 sink2 journal0 journal2)
-runs_damaged file offset status seen seen' seen2 image image1 image' left0 left1 left2 sink0 sink1 sink2 journal0 journal1 journal2 e0 e1 e2 m0 m1 m2 past mid since
-    damaged reads stay opening reporting now input input' sink line how opened failed = record {
-      told = λ tells.
-          let told : TellsFiles seen' = λ this lt. told_back _ (seen' this) (seen2 this) (stay this lt).read (tells this lt) in
-          let at_entry = damaged.told told in
-          let calls = of_told (λ was. Extends journal0 journal1 (OpenedBy was)) (seen 1) (seen' 1) at_entry.0.l0 (at_entry.1 1 (omega arith)) (told 1 (omega arith)) opened in
-          let were = damaged_left seen image e0 at_entry.0 file offset at_entry.1 at_entry.2 in (
-            at_entry.0,
-            at_entry.1,
-            λ found recovers. subst (λ (r : Recovery). Runs r status at_entry.0 (record { stamp = e0; from = m0; to = m2; past = past; since = since; was = seen 1; now = seen2 1 }) image image' seen seen2 left0 left2 sink0 sink2 journal0 journal2)
-                (recovery_one at_entry.0 (Damaged file offset) found at_entry.2 recovers)
-                (record {
-                  line = told_both sink0 sink1 sink2 sink line (λ x y z same given. (given.0, given.1 ∙ ap (λ (t : List ℕ). t ++ given.0) same, given.2));
-                  input = kept_both left0 left1 left2 input input';
-                  reads = λ this lt. kept_both (seen this) (seen' this) (seen2 this)
-                      (damaged_reads seen seen' at_entry.0 file offset at_entry.1 at_entry.2 reads this lt) (stay this lt).read;
-                  crash = both (weakened opening were) reporting (λ left s untouched. were left e1 (opening.each left e1 (now left untouched.images)));
-                  how = elim how [ inl is ↦ inl is | inr other ↦ inr (elim other [ inl is ↦ inl is | inr is ↦ inr (inr is) ]) ];
-                  write_fault = λ e. extends_both (OpenedBy at_entry.0.l0) (FailInside (damage_line file offset)) (FailInside (damage_line file offset)) journal0 journal1 journal2 calls (failed e)
-                      (λ first later by inside. inside_later (damage_line file offset) first later (opened_takes_nothing at_entry.0.l0 first by) inside);
-                  disk_fault = λ e. absurd (elim how [ inl is ↦ omega arith | inr other ↦ elim other [ inl is ↦ omega arith | inr is ↦ omega arith ] ]);
-                }),
-          );
-    }
+pub runs_damaged : (file offset status : ℕ) (u v w : View) → FilesTold u v (λ files. Recovers files (Damaged file offset)) → Reads u v → FilesStay v w
+    → During (Opening u) u v → During (Untouched v w) v w → ((files : Files) → AreImages v.image files → v.since u.moment files v.stamp) → StreamsStay u v → InputStays v w
+    → Extends v.given w.given (λ given. IsFrontOf given (damage_line file offset) × (status ≡ 1 → given ≡ damage_line file offset)) → (status ≡ 1) ⊎ ((status ≡ 4) ⊎ (status ≡ 6))
+    → RunsFrom status u w
+runs_damaged file offset status u v w damaged reads stay opening reporting now streams input line how = record {
+  told = λ tells.
+      let told : TellsFiles v.seen = λ this lt. told_back _ (v.seen this) (w.seen this) (stay this lt).read (tells this lt) in
+      let at_entry = damaged.told told in
+      let were = damaged_left u at_entry.0 file offset at_entry.1 at_entry.2 in (
+        at_entry.0,
+        at_entry.1,
+        λ found recovers. subst (λ (r : Recovery). Runs r status u w)
+            (recovery_one at_entry.0 (Damaged file offset) found at_entry.2 recovers)
+            (record {
+              line = told_both u.given v.given w.given streams.sink line (λ x y z same given. (given.0, given.1 ∙ ap (λ (t : List ℕ). t ++ given.0) same, given.2));
+              input = kept_both u.left v.left w.left streams.input input.input;
+              reads = λ this lt. kept_both (u.seen this) (v.seen this) (w.seen this)
+                  (damaged_reads u v at_entry.0 file offset at_entry.1 at_entry.2 reads this lt) (stay this lt).read;
+              crash = both (weakened opening were) reporting (λ left s untouched. were left v.stamp (opening.each left v.stamp (now left untouched.images)));
+              how = elim how [ inl is ↦ inl is | inr other ↦ inr (elim other [ inl is ↦ inl is | inr is ↦ inr (inr is) ]) ];
+              disk_fault = λ e. absurd (elim how [ inl is ↦ omega arith | inr other ↦ elim other [ inl is ↦ omega arith | inr is ↦ omega arith ] ]);
+            }),
+      );
+}
 
 -- the damage that was reported is that of the files at entry
-pub finds_damage : (file offset : ℕ) (seen seen' seen2 : ℕ → Option (List ℕ)) (image1 image' : ℕ → List ℕ → Type 0)
-    → FilesTold seen seen' (λ files. Recovers files (Damaged file offset)) → FilesStay seen' seen2 image1 image' → FilesTold seen seen2 FindsDamage
-finds_damage file offset seen seen' seen2 image1 image' damaged stay = record {
+pub finds_damage : (file offset : ℕ) (u v w : View) → FilesTold u v (λ files. Recovers files (Damaged file offset)) → FilesStay v w → FilesTold u w FindsDamage
+finds_damage file offset u v w damaged stay = record {
   told = λ tells.
-      let at_entry = damaged.told (λ this lt. told_back _ (seen' this) (seen2 this) (stay this lt).read (tells this lt)) in
+      let at_entry = damaged.told (λ this lt. told_back _ (v.seen this) (w.seen this) (stay this lt).read (tells this lt)) in
       (at_entry.0, at_entry.1, (file, offset, at_entry.2));
 }
 
 -- ---- the store wasn't opened
 
 -- a run that gave nothing
-ran_nothing : (first : State) (status : ℕ) (seen : ℕ → Option (List ℕ)) (image image' : ℕ → List ℕ → Type 0) (files : Files) (input : List ℕ)
-    (stamp m0 m1 : ℕ) (past since : ℕ → Files → ℕ → Type 0) (l0 l1 : Option (List ℕ)) → AreSeen seen files → Recovers files (Recovered first)
-    → LeavesOnly m0 m1 past since (Opening seen image stamp) → (status ≡ 5) ⊎ (status ≡ 6)
-    → Told l0 l1 (λ was now. (now ≡ was) ⊎ StaysShort was now) → (status ≡ 6 → Told l0 l1 Begun)
-    → Ran first status (AtEntry image stamp) Begun (record { stamp = stamp; from = m0; to = m1; past = past; since = since; was = l0; now = l1 }) image' input input []
-ran_nothing first status seen image image' files input stamp m0 m1 past since l0 l1 are recovers opening why reads out =
+ran_nothing : (first : State) (status : ℕ) (files : Files) (input : List ℕ) (u w : View) → AreSeen u files → Recovers files (Recovered first)
+    → During (Opening u) u w → ((left : Files) → AreImages w.image left → w.since u.moment left w.stamp) → (status ≡ 5) ⊎ (status ≡ 6)
+    → Ran first status (passed input input []) u w
+ran_nothing first status files input u w are recovers opening now why =
     let script = script_exists _ _ in
+    let none : NotBegun first (passed input input []) u w = record {
+      input = refl;
+      none = refl;
+      images = λ left images. opening_left u files first are recovers left w.stamp (opening.each left w.stamp (now left images));
+    } in
     record {
       forms = script.0;
       ending = script.1;
@@ -258,74 +248,38 @@ ran_nothing first status seen image image' files input stamp m0 m1 past since l0
       too_long = λ e. absurd (elim why [ inl f ↦ omega arith | inr f ↦ omega arith ]);
       read_fault = λ e. absurd (elim why [ inl f ↦ omega arith | inr f ↦ omega arith ]);
       write_fault = λ e. absurd (elim why [ inl f ↦ omega arith | inr f ↦ omega arith ]);
-      disk_fault = λ e. inl (refl, refl, reads);
-      no_memory = λ e. told_map l0 l1 (out e) (λ was now is. (now, is, none_behind first [] script.0 [] refl now now refl));
-      crash = weakened opening (opening_keeps seen image stamp files first script.0 are recovers);
+      disk_fault = λ e. inl none;
+      no_memory = λ e. inl none;
+      crash = weakened opening (opening_keeps u files first script.0 are recovers);
       last = λ e. absurd (elim why [ inl f ↦ omega arith | inr f ↦ omega arith ]);
     }
 
--- where the files are damaged, the calls fail before that is met
-abbrev pub FailsOver : (journal journal' : Option (List Call)) → Files → Type 0
-FailsOver journal journal' files = (file offset : ℕ) → Recovers files (Damaged file offset) → Extends journal journal' (FailBefore files.l0 offset)
-
-runs_nothing : (found : Recovery) (status : ℕ) (seen seen' : ℕ → Option (List ℕ)) (image image' : ℕ → List ℕ → Type 0) (files : Files)
-    (left0 left1 sink0 sink1 : Option (List ℕ)) (journal0 journal1 : Option (List Call)) (stamp m0 m1 : ℕ) (past since : ℕ → Files → ℕ → Type 0) → AreSeen seen files → Recovers files found
-    → ReadsAsBefore seen seen' → LeavesOnly m0 m1 past since (Opening seen image stamp) → Kept left0 left1 → Kept sink0 sink1 → (status ≡ 5) ⊎ (status ≡ 6)
-    → (status ≡ 5 → FailsOver journal0 journal1 files) → (status ≡ 6 → Told (seen 1) (seen' 1) Begun)
-    → Runs found status files (record { stamp = stamp; from = m0; to = m1; past = past; since = since; was = seen 1; now = seen' 1 }) image image' seen seen' left0 left1 sink0 sink1 journal0 journal1
-runs_nothing (Recovered first) status seen seen' image image' files left0 left1 sink0 sink1 journal0 journal1 stamp m0 m1 past since are recovers reads opening input sink why fails out =
-    told_map left0 left1 input (λ a b same. told_map sink0 sink1 sink (λ x y same'. (
+runs_nothing : (found : Recovery) (status : ℕ) (files : Files) (u w : View) → AreSeen u files → Recovers files found → Reads u w → During (Opening u) u w
+    → ((left : Files) → AreImages w.image left → w.since u.moment left w.stamp) → StreamsStay u w → (status ≡ 5) ⊎ (status ≡ 6) → Runs found status u w
+runs_nothing (Recovered first) status files u w are recovers reads opening now streams why =
+    told_map u.left w.left streams.input (λ a b same. told_map u.given w.given streams.sink (λ x y same'. (
       [],
       same' ∙ sym (append-nil x),
-      subst (λ (r : List ℕ). Ran first status (AtEntry image stamp) Begun (record { stamp = stamp; from = m0; to = m1; past = past; since = since; was = seen 1; now = seen' 1 }) image' a r []) (sym same)
-          (ran_nothing first status seen image image' files a stamp m0 m1 past since (seen 1) (seen' 1) are recovers opening why
-          (told_map (seen 1) (seen' 1) (reads 1 (omega arith)) (λ was now is. elim is [ inl stays ↦ inl stays | inr short ↦ inr short.1 ])) out),
+      subst (λ (r : List ℕ). Ran first status (passed a r []) u w) (sym same) (ran_nothing first status files a u w are recovers opening now why),
     )))
-runs_nothing (Damaged file offset) status seen seen' image image' files left0 left1 sink0 sink1 journal0 journal1 stamp m0 m1 past since are recovers reads opening input sink why fails out = record {
-  line = told_map sink0 sink1 sink (λ x y same'. (
+runs_nothing (Damaged file offset) status files u w are recovers reads opening now streams why = record {
+  line = told_map u.given w.given streams.sink (λ x y same'. (
     [],
     same' ∙ sym (append-nil x),
     ((damage_line file offset, refl), λ e. absurd (elim why [ inl f ↦ omega arith | inr f ↦ omega arith ])),
   ));
-  input = input;
-  reads = damaged_reads seen seen' files file offset are recovers reads;
-  crash = weakened opening (damaged_left seen image stamp files file offset are recovers);
+  input = streams.input;
+  reads = damaged_reads u w files file offset are recovers reads;
+  crash = weakened opening (damaged_left u files file offset are recovers);
   how = inr (inr why);
-  write_fault = λ e. absurd (elim why [ inl f ↦ omega arith | inr f ↦ omega arith ]);
-  disk_fault = λ e. (sink, fails e file offset recovers);
+  disk_fault = λ e. streams.sink;
 }
 
--- a store that wasn't opened
-runs_unopened : (status : ℕ) (seen seen' : ℕ → Option (List ℕ)) (image image' : ℕ → List ℕ → Type 0)
-    (left0 left1 sink0 sink1 : Option (List ℕ)) (journal0 journal1 : Option (List Call)) (stamp m0 m1 : ℕ) (past since : ℕ → Files → ℕ → Type 0)
-    → ReadsAsBefore seen seen' → LeavesOnly m0 m1 past since (Opening seen image stamp) → Kept left0 left1 → Kept sink0 sink1 → (status ≡ 5) ⊎ (status ≡ 6)
-    → FilesTold seen seen' (λ files. status ≡ 5 → FailsOver journal0 journal1 files) → (status ≡ 6 → Told (seen 1) (seen' 1) Begun)
-    → FilesTold seen seen' (λ files. (found : Recovery) → Recovers files found
-    → Runs found status files (record { stamp = stamp; from = m0; to = m1; past = past; since = since; was = seen 1; now = seen' 1 }) image image' seen seen' left0 left1 sink0 sink1 journal0 journal1)
-runs_unopened status seen seen' image image' left0 left1 sink0 sink1 journal0 journal1 stamp m0 m1 past since reads opening input sink why fails out = record {
+-- a store that wasn't opened: the disk failed, or memory ran out
+pub runs_unopened : (status : ℕ) (u w : View) → Reads u w → During (Opening u) u w → ((left : Files) → AreImages w.image left → w.since u.moment left w.stamp)
+    → StreamsStay u w → (status ≡ 5) ⊎ (status ≡ 6) → RunsFrom status u w
+runs_unopened status u w reads opening now streams why = record {
   told = λ tells.
-      let files = fails.told tells in
-      (files.0, files.1, λ found recovers. runs_nothing found status seen seen' image image' files.0 left0 left1 sink0 sink1 journal0 journal1 stamp m0 m1 past since files.1 recovers reads opening input sink why files.2 out);
+      let files = files_there u.seen (reads_tell u w reads tells) in
+      (files.0, files.1, λ found recovers. runs_nothing found status files.0 u w files.1 recovers reads opening now streams why);
 }
-
--- the disk failed while the store was opened
-pub runs_faulted : (seen seen' : ℕ → Option (List ℕ)) (image image' : ℕ → List ℕ → Type 0)
-    (left0 left1 sink0 sink1 : Option (List ℕ)) (journal0 journal1 : Option (List Call)) (stamp m0 m1 : ℕ) (past since : ℕ → Files → ℕ → Type 0)
-    → ReadsAsBefore seen seen' → LeavesOnly m0 m1 past since (Opening seen image stamp) → Kept left0 left1 → Kept sink0 sink1
-    → FilesTold seen seen' (FailsOver journal0 journal1)
-    → FilesTold seen seen' (λ files. (found : Recovery) → Recovers files found
-    → Runs found 5 files (record { stamp = stamp; from = m0; to = m1; past = past; since = since; was = seen 1; now = seen' 1 }) image image' seen seen' left0 left1 sink0 sink1 journal0 journal1)
-runs_faulted seen seen' image image' left0 left1 sink0 sink1 journal0 journal1 stamp m0 m1 past since reads opening input sink fails =
-    runs_unopened 5 seen seen' image image' left0 left1 sink0 sink1 journal0 journal1 stamp m0 m1 past since reads opening input sink (inl refl)
-    (record { told = λ tells. let files = fails.told tells in (files.0, files.1, λ e. files.2) }) (λ e. absurd (omega (arith, e)))
-
--- or memory ran out
-pub runs_out : (seen seen' : ℕ → Option (List ℕ)) (image image' : ℕ → List ℕ → Type 0)
-    (left0 left1 sink0 sink1 : Option (List ℕ)) (journal0 journal1 : Option (List Call)) (stamp m0 m1 : ℕ) (past since : ℕ → Files → ℕ → Type 0)
-    → ReadsAsBefore seen seen' → LeavesOnly m0 m1 past since (Opening seen image stamp) → Kept left0 left1 → Kept sink0 sink1
-    → Told (seen 1) (seen' 1) Begun
-    → FilesTold seen seen' (λ files. (found : Recovery) → Recovers files found
-    → Runs found 6 files (record { stamp = stamp; from = m0; to = m1; past = past; since = since; was = seen 1; now = seen' 1 }) image image' seen seen' left0 left1 sink0 sink1 journal0 journal1)
-runs_out seen seen' image image' left0 left1 sink0 sink1 journal0 journal1 stamp m0 m1 past since reads opening input sink log =
-    runs_unopened 6 seen seen' image image' left0 left1 sink0 sink1 journal0 journal1 stamp m0 m1 past since reads opening input sink (inr refl)
-    (record { told = λ tells. let files = files_there seen (reads_tell seen seen' reads tells) in (files.0, files.1, λ e. absurd (omega (arith, e))) }) (λ e. log)

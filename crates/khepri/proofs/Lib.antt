@@ -1,5 +1,3 @@
-pub mod Calls
-pub mod Pieces
 pub mod Giving
 pub mod Scripts
 pub mod Unique

@@ -4,22 +4,23 @@ use Rattle.std.specs.Prelude.{IfSome, IsTrue, Result}
 use Rattle.std.proofs.lemmas.List.{append-nil, length-drop}
 use Rattle.kh_io.specs.declared.files.Files.{Files}
 use Rattle.kh_io.specs.Told.{Told, Kept, Extends, IsFrontOf}
-use Rattle.kh_io.specs.Disk.{LeavesOnly}
-use Rattle.kh_io.proofs.{started, both, weakened, told_same, told_map, told_both}
+use Rattle.kh_io.specs.Disk.{AreImages}
+use Rattle.kh_io.specs.View.{View}
+use Rattle.kh_io.specs.Frames.{During}
+use Rattle.kh_io.proofs.{started, both, weakened, told_same, told_map}
 use Rattle.kh_text_defs.specs.Shown.{shown_line}
 use Rattle.kh_read.specs.declared.form.Form.{Form}
 use Rattle.kh_read.specs.Reading.{Cut, Fault}
 use Rattle.khepri.specs.declared.session.Stop.{Stop}
 use Rattle.khepri.specs.declared.session.Stop.TheVariants as stop
-use Rattle.kh_store.specs.State.{State, store_logs, store_reply, store_after, log_with, state_after, log_after, text_of}
-use Rattle.kh_store.specs.Store.{MaybeLogs}
+use Rattle.kh_store.specs.State.{State, store_logs, store_reply, store_after, state_after, text_of}
 use Rattle.kh_store.specs.Recovery.{Recovered, Recovers}
 use Rattle.khepri.specs.Output.{GivesAll}
-use Rattle.khepri.specs.Script.{line_at, all_read, Script, ends, cut}
-use Rattle.khepri.specs.Session.{Answering}
-use Rattle.khepri.specs.Serving.{AnswerStops, Span, KeepsPrefix, OneBehind, Served, ServedToFault, ServedPart, ServedToDoubt, ServeStops}
+use Rattle.khepri.specs.Script.{line_at, all_read, Script, BeginsReading, ends, cut}
+use Rattle.khepri.specs.Session.{RecoversAt, RecoversBy, CutOff, IsInDoubt}
+use Rattle.khepri.specs.Serving.{AnswerStops, Lines, Step, KeepsPrefix, Served, ServedToFault, ServedPart, ServeStops}
 use Rattle.khepri.proofs.Scripts.{reads_starts, reads_on, reads_faulty, reads_cut, reads_begins}
-use Rattle.khepri.proofs.Replies.{text_of-append, state_after-append, logs_both, prefix_more, prefix_whole, answering_is_prefix}
+use Rattle.khepri.proofs.Replies.{text_of-append, state_after-append, prefix_more, prefix_whole, answering_is_prefix, behind}
 
 -- the stamp is what the sink has taken
 abbrev pub Counts : Option (List ℕ) → ℕ → Type 0
@@ -28,10 +29,6 @@ Counts sink stamp = IfSome sink (λ given. stamp ≡ length given)
 pub counts : (sink : Option (List ℕ)) (stamp : ℕ) → ((bytes : List ℕ) → sink ≡ Some bytes → stamp ≡ length bytes) → Counts sink stamp
 counts (Some given) stamp law = law given refl
 counts None stamp law = tt
-
--- the span up to another moment
-abbrev pub span_to : (stamp from to : ℕ) (past since : ℕ → Files → ℕ → Type 0) (was now : Option (List ℕ)) → Span
-span_to stamp from to past since was now = record { stamp = stamp; from = from; to = to; past = past; since = since; was = was; now = now }
 
 -- a line and its reply behind the text so far
 text_on : (old mid : State) (forms : List Form) (form : Form) → mid ≡ state_after forms old
@@ -50,46 +47,50 @@ told_counted a None (Some z) s0 s1 s2 k l m p q is = absurd q
 told_counted (Some x) b None s0 s1 s2 k l m p q is = tt
 told_counted None b None s0 s1 s2 k l m p q is = tt
 
+-- a view whose stamp is known
+abbrev pub IsCounted : View → Type 0
+IsCounted v = Counts v.given v.stamp
+
 -- the lines so far were answered, up to this moment
-abbrev pub SoFar : Bool → List ℕ → List ℕ → State → State → Span → Option (List ℕ) → Option (List ℕ) → Type 0
-SoFar is_end bytes left old mid span sink now = Extends sink now (Served is_end bytes left old mid span)
+abbrev pub SoFar : Step → (v w : View) → Type 0
+SoFar step v w = Extends v.given w.given (Served step v w)
+
+-- what was served from the first bytes on, up to these
+abbrev pub step_to : Lines → List ℕ → State → State → Step
+step_to lines left old new = record { lines = lines; left = left; old = old; new = new }
 
 -- before the first line
-pub nothing_served : (is_end : Bool) (bytes : List ℕ) (state : State) (sink log : Option (List ℕ)) (stamp moment : ℕ) (since : ℕ → Files → ℕ → Type 0)
-    → ((files : Files) (s : ℕ) → since moment files s → Recovers files (Recovered state) × (s ≡ stamp))
-    → SoFar is_end bytes bytes state state (span_to stamp moment moment since since log log) sink sink
-nothing_served is_end bytes state sink log stamp moment since now = told_same _ sink (λ a. (
+pub nothing_served : (lines : Lines) (state : State) (v : View)
+    → ((files : Files) (s : ℕ) → v.since v.moment files s → Recovers files (Recovered state) × (s ≡ v.stamp)) → SoFar (step_to lines lines.bytes state state) v v
+nothing_served lines state v now = told_same _ v.given (λ a. (
   [],
   sym (append-nil a),
   record {
     forms = [];
-    reads = reads_starts is_end bytes;
+    reads = reads_starts lines.is_end lines.bytes;
     text = refl;
     state = refl;
-    log = told_same _ log (λ was. refl);
-    crash = started moment since (λ files s left. let is = now files s left in prefix_whole state [] stamp files s is.0 (omega (arith, is.1)));
+    crash = started v (λ files s left. let is = now files s left in prefix_whole state [] v.stamp files s is.0 (omega (arith, is.1)));
   },
 ))
 
+-- what answering a form leaves at any moment
+abbrev pub Answering : Form → State → (v w : View) → Type 0
+Answering form old v w = During (λ files s. RecoversAt old v files s ⊎ RecoversBy (store_after form old) w files s) v w
+
 -- what a crash leaves over a line more
-crash_on : (old mid : State) (forms : List Form) (form : Form) (stamp before after m0 : ℕ) (past : ℕ → Files → ℕ → Type 0) {m1 m2 : ℕ} {p1 p2 : ℕ → Files → ℕ → Type 0}
-    → mid ≡ state_after forms old → before ≤ stamp + length (text_of forms old) → after ≤ stamp + length (text_of (forms ++ form ∷ []) old)
-    → KeepsPrefix (span_to stamp m0 m1 past p1 None None) old forms → LeavesOnly m1 m2 p1 p2 (Answering form mid before after)
-    → KeepsPrefix (span_to stamp m0 m2 past p2 None None) old (forms ++ form ∷ [])
-crash_on old mid forms form stamp before after m0 past is taken taken_now so_far crash =
-    both (weakened so_far (λ files s. prefix_more old forms (form ∷ []) stamp files s)) crash
-    (answering_is_prefix old mid forms form stamp before after is taken taken_now)
+crash_on : (old mid : State) (forms : List Form) (form : Form) (u v w : View) → mid ≡ state_after forms old → v.stamp ≤ u.stamp + length (text_of forms old)
+    → w.stamp ≤ u.stamp + length (text_of (forms ++ form ∷ []) old) → KeepsPrefix old forms u v → Answering form mid v w → KeepsPrefix old (forms ++ form ∷ []) u w
+crash_on old mid forms form u v w is taken taken_now so_far crash =
+    both (weakened so_far (λ files s. prefix_more old forms (form ∷ []) u.stamp files s)) crash (answering_is_prefix old mid forms form u.stamp v w is taken taken_now)
 
 -- one line more
-pub one_line : (is_end : Bool) (bytes left rest : List ℕ) (old mid new : State) (form : Form) (sink now later : Option (List ℕ)) (stamp before after m0 : ℕ)
-    (past : ℕ → Files → ℕ → Type 0) (l0 l1 l2 : Option (List ℕ)) {m1 m2 : ℕ} {p1 p2 : ℕ → Files → ℕ → Type 0} → Counts sink stamp → Counts now before → Counts later after
-    → SoFar is_end bytes left old mid (span_to stamp m0 m1 past p1 l0 l1) sink now → line_at is_end left ≡ Ok (form, rest)
-    → GivesAll now later (shown_line (store_reply form mid)) → LeavesOnly m1 m2 p1 p2 (Answering form mid before after) → new ≡ store_after form mid
-    → Told l1 l2 (λ was now. now ≡ log_with form mid was)
-    → SoFar is_end bytes rest old new (span_to stamp m0 m2 past p2 l0 l2) sink later
-one_line is_end bytes left rest old mid new form sink now later stamp before after m0 past l0 l1 l2 at_first at_now at_later so_far line given crash is logged =
+pub one_line : (lines : Lines) (left rest : List ℕ) (old mid new : State) (form : Form) (u v w : View) → IsCounted u → IsCounted v → IsCounted w
+    → SoFar (step_to lines left old mid) u v → line_at lines.is_end left ≡ Ok (form, rest) → GivesAll v.given w.given (shown_line (store_reply form mid))
+    → Answering form mid v w → new ≡ store_after form mid → SoFar (step_to lines rest old new) u w
+one_line lines left rest old mid new form u v w at_first at_now at_later so_far line given crash is =
     let reply = shown_line (store_reply form mid) in
-    told_counted sink now later stamp before after at_first at_now at_later so_far given (λ x y z k l m p q.
+    told_counted u.given v.given w.given u.stamp v.stamp w.stamp at_first at_now at_later so_far given (λ x y z k l m p q.
     let served = p.2 in
     let text : text_of (served.forms ++ form ∷ []) old ≡ p.0 ++ reply =
     text_on old mid served.forms form served.state ∙ ap (λ (t : List ℕ). t ++ reply) (sym served.text) in (
@@ -97,75 +98,69 @@ one_line is_end bytes left rest old mid new form sink now later stamp before aft
       q ∙ ap (λ (t : List ℕ). t ++ reply) p.1 ∙ append_assoc x p.0 reply,
       record {
         forms = served.forms ++ form ∷ [];
-        reads = reads_on is_end bytes left served.forms form rest served.reads line;
+        reads = reads_on lines.is_end lines.bytes left served.forms form rest served.reads line;
         text = sym text;
         state = is ∙ ap (store_after form) served.state ∙ sym (state_after-append served.forms (form ∷ []) old);
-        log = logs_both l0 l1 l2 old mid served.forms (form ∷ []) served.state served.log logged;
-        crash = crash_on old mid served.forms form stamp before after m0 past served.state
+        crash = crash_on old mid served.forms form u v w served.state
             (omega (arith, k, l, ap length p.1, length-append x p.0, ap length served.text))
             (omega (arith, k, m, ap length q, ap length p.1, length-append x p.0, length-append y reply, ap length text, length-append p.0 reply))
             served.crash crash;
       },
     ))
 
--- commands were answered, and no more was executed
-pub none_behind : (old : State) (forms others : List Form) (given : List ℕ) → given ≡ text_of forms old
-    → (was now : List ℕ) → now ≡ log_after forms old was → OneBehind old (forms ++ others) given was now
-none_behind old forms others given text was now log = record {
-  answered = forms;
-  last = [];
-  one = omega arith;
-  front = (others, ap (λ (fs : List Form). fs ++ others) (sym (append-nil forms)));
-  part = [];
-  text = text ∙ sym (append-nil (text_of forms old));
-  reply = ([], refl);
-  log = log ∙ ap (λ (fs : List Form). log_after fs old was) (sym (append-nil forms));
-}
+-- what a crash leaves once a form was executed or not
+abbrev pub LeavesOneOf : Form → State → View → Type 0
+LeavesOneOf form mid w = (files : Files) → AreImages w.image files → Recovers files (Recovered mid) ⊎ Recovers files (Recovered (store_after form mid))
 
-pub all_answered : (old : State) (forms : List Form) (given : List ℕ) → given ≡ text_of forms old → (was now : List ℕ) → now ≡ log_after forms old was
-    → OneBehind old forms given was now
-all_answered old forms given text was now log =
-    subst (λ (fs : List Form). OneBehind old fs given was now) (append-nil forms) (none_behind old forms [] given text was now log)
+pub left_one_of : (form : Form) (mid : State) (v w : View) → Answering form mid v w → ((files : Files) → AreImages w.image files → w.since v.moment files w.stamp) → LeavesOneOf form mid w
+left_one_of form mid v w crash now files images = elim (crash.each files w.stamp (now files images)) [ inl before ↦ inl before.1 | inr later ↦ inr later.1 ]
 
--- or one more was, and a front of its reply given
-one_behind : (old mid : State) (forms : List Form) (form : Form) (given part : List ℕ) → mid ≡ state_after forms old → given ≡ text_of forms old
-    → IsFrontOf part (shown_line (store_reply form mid)) → (was now : List ℕ) → now ≡ log_after (forms ++ form ∷ []) old was
-    → OneBehind old (forms ++ form ∷ []) (given ++ part) was now
-one_behind old mid forms form given part is text front was now log = record {
+-- a session that was cut off at one form
+abbrev cut_at : (old mid : State) (forms : List Form) (form : Form) (part : List ℕ) (w : View) → mid ≡ state_after forms old → IsFrontOf part (shown_line (store_reply form mid))
+    → LeavesOneOf form mid w → CutOff 1 old w
+cut_at old mid forms form part w is front images = record {
   answered = forms;
   last = form ∷ [];
-  one = omega arith;
-  front = ([], sym (append-nil (forms ++ form ∷ [])));
+  few = omega arith;
   part = part;
-  text = ap (λ (t : List ℕ). t ++ part) text;
   reply = (
     front.0,
     append-nil (shown_line (store_reply form (state_after forms old))) ∙ ap (λ (t : State). shown_line (store_reply form t)) (sym is) ∙ front.1,
   );
-  log = log;
+  images = λ files left. elim (images files left) [
+    | inl before ↦ inl (subst (λ (t : State). Recovers files (Recovered t)) is before)
+    | inr later ↦ inr (behind old mid forms form files is later)
+  ];
+}
+
+-- or between two
+abbrev cut_between : (old mid : State) (forms : List Form) (w : View) → mid ≡ state_after forms old → ((files : Files) → AreImages w.image files → Recovers files (Recovered mid)) → CutOff 1 old w
+cut_between old mid forms w is images = record {
+  answered = forms;
+  last = [];
+  few = omega arith;
+  part = [];
+  reply = ([], refl);
+  images = λ files left. inl (subst (λ (t : State). Recovers files (Recovered t)) is (images files left));
 }
 
 -- a front of one line more
-front_of_line : (is_end : Bool) (bytes left rest : List ℕ) (old mid : State) (form : Form) (sink now later : Option (List ℕ)) (stamp before after m0 : ℕ)
-    (past : ℕ → Files → ℕ → Type 0) (l0 l1 l2 : Option (List ℕ)) {m1 m2 : ℕ} {p1 p2 : ℕ → Files → ℕ → Type 0} → Counts sink stamp → Counts now before → Counts later after
-    → SoFar is_end bytes left old mid (span_to stamp m0 m1 past p1 l0 l1) sink now → line_at is_end left ≡ Ok (form, rest)
-    → Extends now later (λ more. IsFrontOf more (shown_line (store_reply form mid))) → LeavesOnly m1 m2 p1 p2 (Answering form mid before after)
-    → Told l1 l2 (λ was now. now ≡ log_with form mid was) → Extends sink later (ServedPart is_end bytes old (span_to stamp m0 m2 past p2 l0 l2))
-front_of_line is_end bytes left rest old mid form sink now later stamp before after m0 past l0 l1 l2 at_first at_now at_later so_far line given crash logged =
+front_of_line : (lines : Lines) (left rest : List ℕ) (old mid : State) (form : Form) (u v w : View) → IsCounted u → IsCounted v → IsCounted w
+    → SoFar (step_to lines left old mid) u v → line_at lines.is_end left ≡ Ok (form, rest) → Extends v.given w.given (λ more. IsFrontOf more (shown_line (store_reply form mid)))
+    → Answering form mid v w → LeavesOneOf form mid w → Extends u.given w.given (ServedPart lines old u w)
+front_of_line lines left rest old mid form u v w at_first at_now at_later so_far line given crash images =
     let reply = shown_line (store_reply form mid) in
-    told_counted sink now later stamp before after at_first at_now at_later so_far given (λ x y z k l m p q.
+    told_counted u.given v.given w.given u.stamp v.stamp w.stamp at_first at_now at_later so_far given (λ x y z k l m p q.
     let served = p.2 in
     let text : text_of (served.forms ++ form ∷ []) old ≡ p.0 ++ reply =
     text_on old mid served.forms form served.state ∙ ap (λ (t : List ℕ). t ++ reply) (sym served.text) in (
       p.0 ++ q.0,
       q.1 ∙ ap (λ (t : List ℕ). t ++ q.0) p.1 ∙ append_assoc x p.0 q.0,
       record {
-        forms = served.forms ++ form ∷ [];
-        reads = reads_begins is_end bytes rest (served.forms ++ form ∷ []) (reads_on is_end bytes left served.forms form rest served.reads line);
-        log = told_map l0 l2 (logs_both l0 l1 l2 old mid served.forms (form ∷ []) served.state served.log logged)
-            (one_behind old mid served.forms form p.0 q.0 served.state served.text q.2);
-        front = (q.2.0, text ∙ ap (λ (t : List ℕ). p.0 ++ t) q.2.1 ∙ sym (append_assoc p.0 q.0 q.2.0));
-        crash = crash_on old mid served.forms form stamp before after m0 past served.state
+        cut = cut_at old mid served.forms form q.0 w served.state q.2 images;
+        reads = reads_begins lines.is_end lines.bytes rest (served.forms ++ form ∷ []) (reads_on lines.is_end lines.bytes left served.forms form rest served.reads line);
+        text = ap (λ (t : List ℕ). t ++ q.0) served.text;
+        crash = crash_on old mid served.forms form u v w served.state
             (omega (arith, k, l, ap length p.1, length-append x p.0, ap length served.text))
             (omega (
               arith,
@@ -184,135 +179,87 @@ front_of_line is_end bytes left rest old mid form sink now later stamp before af
       },
     ))
 
--- nothing of one line more, for want of memory
-line_not_given : (is_end : Bool) (bytes left rest : List ℕ) (old mid : State) (form : Form) (sink now later : Option (List ℕ)) (stamp before after m0 : ℕ)
-    (past : ℕ → Files → ℕ → Type 0) (l0 l1 l2 : Option (List ℕ)) {m1 m2 : ℕ} {p1 p2 : ℕ → Files → ℕ → Type 0} → Counts sink stamp → Counts now before → Counts later after
-    → SoFar is_end bytes left old mid (span_to stamp m0 m1 past p1 l0 l1) sink now → line_at is_end left ≡ Ok (form, rest)
-    → Kept now later → LeavesOnly m1 m2 p1 p2 (Answering form mid before after) → Told l1 l2 (λ was now. (now ≡ was) ⊎ (now ≡ log_with form mid was))
-    → Extends sink later (ServedPart is_end bytes old (span_to stamp m0 m2 past p2 l0 l2))
-line_not_given is_end bytes left rest old mid form sink now later stamp before after m0 past l0 l1 l2 at_first at_now at_later so_far line kept crash logged =
-    let reply = shown_line (store_reply form mid) in
-    told_counted sink now later stamp before after at_first at_now at_later so_far kept (λ x y z k l m p same.
-    let served = p.2 in
-    let forms = served.forms in
-    let text : text_of (forms ++ form ∷ []) old ≡ p.0 ++ reply = text_on old mid forms form served.state ∙ ap (λ (t : List ℕ). t ++ reply) (sym served.text) in (
-      p.0,
-      same ∙ p.1,
-      record {
-        forms = forms ++ form ∷ [];
-        reads = reads_begins is_end bytes rest (forms ++ form ∷ []) (reads_on is_end bytes left forms form rest served.reads line);
-        front = (reply, text);
-        log = told_both l0 l1 l2 served.log logged (λ a b c is either. elim either [
-          | inl none ↦ none_behind old forms (form ∷ []) p.0 served.text a c (none ∙ is)
-          | inr one ↦ subst (λ (g : List ℕ). OneBehind old (forms ++ form ∷ []) g a c) (append-nil p.0)
-              (one_behind old mid forms form p.0 [] served.state served.text (reply, refl) a c (logs_both (Some a) (Some b) (Some c) old mid forms (form ∷ []) served.state is one))
-        ]);
-        crash = crash_on old mid forms form stamp before after m0 past served.state
-            (omega (arith, k, l, ap length p.1, length-append x p.0, ap length served.text))
-            (omega (arith, k, m, ap length same, ap length p.1, length-append x p.0, ap length text, length-append p.0 reply)) served.crash crash;
-      },
-    ))
+-- nothing of it was given
+kept_front : (v w : View) (line : List ℕ) → Kept v.given w.given → Extends v.given w.given (λ more. (more ≡ []) × IsFrontOf more line)
+kept_front v w line kept = told_map v.given w.given kept (λ x y same. ([], same ∙ sym (append-nil x), (refl, (line, refl))))
 
 -- one line more is in doubt
-line_in_doubt : (is_end : Bool) (bytes left rest : List ℕ) (old mid : State) (form : Form) (sink now later : Option (List ℕ)) (stamp before after m0 : ℕ)
-    (past : ℕ → Files → ℕ → Type 0) (l0 l1 l2 : Option (List ℕ)) {m1 m2 : ℕ} {p1 p2 : ℕ → Files → ℕ → Type 0} → Counts sink stamp → Counts now before → Counts later after
-    → SoFar is_end bytes left old mid (span_to stamp m0 m1 past p1 l0 l1) sink now → line_at is_end left ≡ Ok (form, rest)
-    → Kept now later → IsTrue (store_logs form mid) → LeavesOnly m1 m2 p1 p2 (Answering form mid before after) → Told l1 l2 (MaybeLogs form mid)
-    → Extends sink later (ServedToDoubt is_end bytes old (span_to stamp m0 m2 past p2 l0 l2))
-line_in_doubt is_end bytes left rest old mid form sink now later stamp before after m0 past l0 l1 l2 at_first at_now at_later so_far line kept logged crash doubt =
-    told_counted sink now later stamp before after at_first at_now at_later so_far kept (λ x y z k l m p same.
-    let served = p.2 in (
+line_in_doubt : (lines : Lines) (left rest : List ℕ) (old mid : State) (form : Form) (u v w : View) → IsCounted u → IsCounted v → IsCounted w
+    → SoFar (step_to lines left old mid) u v → line_at lines.is_end left ≡ Ok (form, rest) → Kept v.given w.given → IsTrue (store_logs form mid)
+    → Answering form mid v w → LeavesOneOf form mid w → Extends u.given w.given (λ given. (served : ServedPart lines old u w given) × IsInDoubt old w served.cut)
+line_in_doubt lines left rest old mid form u v w at_first at_now at_later so_far line kept logged crash images =
+    let reply = shown_line (store_reply form mid) in
+    told_counted u.given v.given w.given u.stamp v.stamp w.stamp at_first at_now at_later so_far kept (λ x y z k l m p same.
+    let served = p.2 in
+    let text : text_of (served.forms ++ form ∷ []) old ≡ p.0 ++ reply =
+    text_on old mid served.forms form served.state ∙ ap (λ (t : List ℕ). t ++ reply) (sym served.text) in (
       p.0,
       same ∙ p.1,
-      record {
-        answered = served.forms;
-        form = form;
-        reads = reads_begins is_end bytes rest (served.forms ++ form ∷ []) (reads_on is_end bytes left served.forms form rest served.reads line);
-        text = served.text;
-        logged = subst (λ (t : State). IsTrue (store_logs form t)) served.state logged;
-        log = told_both l0 l1 l2 served.log doubt (λ a b c is left. subst (λ (t : State). MaybeLogs form t (log_after served.forms old a) c) served.state
-            (subst (λ (w : List ℕ). MaybeLogs form mid w c) is left));
-        crash = crash_on old mid served.forms form stamp before after m0 past served.state
-            (omega (arith, k, l, ap length p.1, length-append x p.0, ap length served.text))
-            (omega (
-              arith,
-              k,
-              m,
-              ap length same,
-              ap length p.1,
-              length-append x p.0,
-              ap length served.text,
-              ap length (text_of-append served.forms (form ∷ []) old),
-              length-append (text_of served.forms old) (text_of (form ∷ []) (state_after served.forms old)),
-            ))
-            served.crash crash;
-      },
+      (
+        record {
+          cut = cut_at old mid served.forms form [] w served.state (reply, refl) images;
+          reads = reads_begins lines.is_end lines.bytes rest (served.forms ++ form ∷ []) (reads_on lines.is_end lines.bytes left served.forms form rest served.reads line);
+          text = served.text ∙ sym (append-nil (text_of served.forms old));
+          crash = crash_on old mid served.forms form u v w served.state
+              (omega (arith, k, l, ap length p.1, length-append x p.0, ap length served.text))
+              (omega (arith, k, m, ap length same, ap length p.1, length-append x p.0, ap length text, length-append p.0 reply))
+              served.crash crash;
+        },
+        record { form = form; alone = refl; logged = subst (λ (t : State). IsTrue (store_logs form t)) served.state logged; none = refl },
+      ),
     ))
 
 -- what answering a form gives where it stops so
 abbrev pub unanswered : Stop → Result (Unit {0}) Stop
 unanswered s = Err s
 
-pub no_reply : (is_end : Bool) (bytes left rest : List ℕ) (old mid : State) (form : Form) (sink now later : Option (List ℕ)) (stamp before after m0 : ℕ)
-    (past : ℕ → Files → ℕ → Type 0) (l0 l1 l2 : Option (List ℕ)) {m1 m2 : ℕ} {p1 p2 : ℕ → Files → ℕ → Type 0} (s : Stop) {sink_rose disk_rose sink_rose' disk_rose' : Type 0}
-    → Counts sink stamp → Counts now before → Counts later after
-    → SoFar is_end bytes left old mid (span_to stamp m0 m1 past p1 l0 l1) sink now → line_at is_end left ≡ Ok (form, rest)
-    → Extends now later (λ more. IsFrontOf more (shown_line (store_reply form mid)))
-    → (unanswered s ≡ unanswered stop.DiskFault → Kept now later × IsTrue (store_logs form mid))
-    → (unanswered s ≢ unanswered stop.DiskFault → unanswered s ≢ unanswered stop.NoMemory → Told l1 l2 (λ was now. now ≡ log_with form mid was))
-    → (unanswered s ≡ unanswered stop.DiskFault → Told l1 l2 (MaybeLogs form mid))
-    → (unanswered s ≡ unanswered stop.NoMemory → Kept now later × Told l1 l2 (λ was now. (now ≡ was) ⊎ (now ≡ log_with form mid was))) → LeavesOnly m1 m2 p1 p2 (Answering form mid before after)
-    → AnswerStops s sink_rose disk_rose → (sink_rose → sink_rose') → (disk_rose → disk_rose')
-    → ServeStops s is_end bytes old (span_to stamp m0 m2 past p2 l0 l2) sink later sink_rose' disk_rose'
-no_reply is_end bytes left rest old mid form sink now later stamp before after m0 past l0 l1 l2 stop.Syntax k l m so_far line given in_doubt logged doubt none crash why by_sink by_disk = absurd why
-no_reply is_end bytes left rest old mid form sink now later stamp before after m0 past l0 l1 l2 stop.Damaged k l m so_far line given in_doubt logged doubt none crash why by_sink by_disk = absurd why
-no_reply is_end bytes left rest old mid form sink now later stamp before after m0 past l0 l1 l2 stop.ReadFault k l m so_far line given in_doubt logged doubt none crash why by_sink by_disk = absurd why
-no_reply is_end bytes left rest old mid form sink now later stamp before after m0 past l0 l1 l2 stop.TooLong k l m so_far line given in_doubt logged doubt none crash why by_sink by_disk = absurd why
-no_reply is_end bytes left rest old mid form sink now later stamp before after m0 past l0 l1 l2 stop.WriteFault k l m so_far line given in_doubt logged doubt none crash why by_sink by_disk =
-    (front_of_line is_end bytes left rest old mid form sink now later stamp before after m0 past l0 l1 l2 k l m so_far line given crash (logged (λ e. cc) (λ e. cc)), by_sink why)
-no_reply is_end bytes left rest old mid form sink now later stamp before after m0 past l0 l1 l2 stop.DiskFault k l m so_far line given in_doubt logged doubt none crash why by_sink by_disk =
-    let is = in_doubt refl in
-    (line_in_doubt is_end bytes left rest old mid form sink now later stamp before after m0 past l0 l1 l2 k l m so_far line is.0 is.1 crash (doubt refl), by_disk why)
-no_reply is_end bytes left rest old mid form sink now later stamp before after m0 past l0 l1 l2 stop.NoMemory k l m so_far line given in_doubt logged doubt none crash why by_sink by_disk =
-    let is = none refl in
-    line_not_given is_end bytes left rest old mid form sink now later stamp before after m0 past l0 l1 l2 k l m so_far line is.0 crash is.1
+pub no_reply : (lines : Lines) (left rest : List ℕ) (old mid : State) (form : Form) (u v w : View) (s : Stop) → IsCounted u → IsCounted v → IsCounted w
+    → SoFar (step_to lines left old mid) u v → line_at lines.is_end left ≡ Ok (form, rest) → Extends v.given w.given (λ more. IsFrontOf more (shown_line (store_reply form mid)))
+    → (unanswered s ≡ unanswered stop.DiskFault → Kept v.given w.given × IsTrue (store_logs form mid)) → Answering form mid v w → LeavesOneOf form mid w
+    → AnswerStops s → ServeStops s lines old u w
+no_reply lines left rest old mid form u v w stop.Syntax k l m so_far line given in_doubt crash images why = absurd why
+no_reply lines left rest old mid form u v w stop.Damaged k l m so_far line given in_doubt crash images why = absurd why
+no_reply lines left rest old mid form u v w stop.ReadFault k l m so_far line given in_doubt crash images why = absurd why
+no_reply lines left rest old mid form u v w stop.TooLong k l m so_far line given in_doubt crash images why = absurd why
+no_reply lines left rest old mid form u v w stop.WriteFault k l m so_far line given in_doubt crash images why =
+    front_of_line lines left rest old mid form u v w k l m so_far line given crash images
+no_reply lines left rest old mid form u v w stop.NoMemory k l m so_far line given in_doubt crash images why =
+    front_of_line lines left rest old mid form u v w k l m so_far line given crash images
+no_reply lines left rest old mid form u v w stop.DiskFault k l m so_far line given in_doubt crash images why =
+    let is = in_doubt refl in line_in_doubt lines left rest old mid form u v w k l m so_far line is.0 is.1 crash images
 
 -- bytes that are no form
-pub to_fault : (is_end : Bool) (bytes left : List ℕ) (old mid : State) (span : Span) (sink now : Option (List ℕ))
-    → SoFar is_end bytes left old mid span sink now → line_at is_end left ≡ Err Fault → Extends sink now (ServedToFault is_end bytes old span)
-to_fault is_end bytes left old mid span sink now so_far line =
-    told_map sink now so_far (λ x y p. (
-      p.0,
-      p.1,
-      record { forms = p.2.forms; reads = reads_faulty is_end bytes left p.2.forms p.2.reads line; text = p.2.text; log = p.2.log; crash = p.2.crash },
-    ))
+pub to_fault : (lines : Lines) (left : List ℕ) (old mid : State) (v w : View) → SoFar (step_to lines left old mid) v w → line_at lines.is_end left ≡ Err Fault
+    → Extends v.given w.given (ServedToFault lines old v w)
+to_fault lines left old mid v w so_far line = told_map v.given w.given so_far (λ x y p. (
+  p.0,
+  p.1,
+  record { forms = p.2.forms; reads = reads_faulty lines.is_end lines.bytes left p.2.forms p.2.reads line; text = p.2.text; crash = p.2.crash },
+))
 
 -- the input ends inside a form
-pub to_cut : (is_end : Bool) (bytes left : List ℕ) (old mid : State) (span : Span) (sink now : Option (List ℕ)) → is_end ≡ true
-    → SoFar is_end bytes left old mid span sink now → left ≢ [] → line_at is_end left ≡ Err Cut → Extends sink now (ServedToFault is_end bytes old span)
-to_cut false bytes left old mid span sink now ended so_far some line = absurd cc
-to_cut true bytes left old mid span sink now ended so_far some line =
-    told_map sink now so_far (λ x y p. (
-      p.0,
-      p.1,
-      record { forms = p.2.forms; reads = reads_cut bytes left p.2.forms p.2.reads some line; text = p.2.text; log = p.2.log; crash = p.2.crash },
-    ))
+pub to_cut : (is_end : Bool) (bytes left : List ℕ) (old mid : State) (v w : View) → is_end ≡ true → SoFar (step_to (record { is_end = is_end; bytes = bytes }) left old mid) v w → left ≢ []
+    → line_at is_end left ≡ Err Cut → Extends v.given w.given (ServedToFault (record { is_end = is_end; bytes = bytes }) old v w)
+to_cut false bytes left old mid v w ended so_far some line = absurd cc
+to_cut true bytes left old mid v w ended so_far some line = told_map v.given w.given so_far (λ x y p. (
+  p.0,
+  p.1,
+  record { forms = p.2.forms; reads = reads_cut bytes left p.2.forms p.2.reads some line; text = p.2.text; crash = p.2.crash },
+))
 
 -- what was answered so far
-pub to_front : (is_end : Bool) (bytes left : List ℕ) (old mid : State) (span : Span) (sink now : Option (List ℕ))
-    → SoFar is_end bytes left old mid span sink now → Extends sink now (ServedPart is_end bytes old span)
-to_front is_end bytes left old mid span sink now so_far =
-    told_map sink now so_far (λ x y p. (
-      p.0,
-      p.1,
-      record {
-        forms = p.2.forms;
-        reads = reads_begins is_end bytes left p.2.forms p.2.reads;
-        front = ([], sym p.2.text ∙ sym (append-nil p.0));
-        log = told_map span.was span.now p.2.log (all_answered old p.2.forms p.0 p.2.text);
-        crash = p.2.crash;
-      },
-    ))
+pub to_front : (lines : Lines) (left : List ℕ) (old mid : State) (v w : View) → ((files : Files) → AreImages w.image files → Recovers files (Recovered mid))
+    → SoFar (step_to lines left old mid) v w → Extends v.given w.given (ServedPart lines old v w)
+to_front lines left old mid v w images so_far = told_map v.given w.given so_far (λ x y p. (
+  p.0,
+  p.1,
+  record {
+    cut = cut_between old mid p.2.forms w p.2.state images;
+    reads = subst (BeginsReading lines.is_end lines.bytes) (sym (append-nil p.2.forms)) (reads_begins lines.is_end lines.bytes left p.2.forms p.2.reads);
+    text = p.2.text ∙ sym (append-nil (text_of p.2.forms old));
+    crash = subst (λ (fs : List Form). KeepsPrefix old fs v w) (sym (append-nil p.2.forms)) p.2.crash;
+  },
+))
 
 -- something is left before the end
 pub some_left : (input : List ℕ) (place : ℕ) → place < length input → drop place input ≢ []

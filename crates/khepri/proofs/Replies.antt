@@ -1,16 +1,15 @@
 -- Commands, their replies and the state after them, in parts; and what a crash leaves of them.
-use Rattle.std.proofs.Common.{◌≡◌, ℕ, zero, suc, ◌+◌, ◌≤◌, List, [], ◌∷◌, ◌++◌, length, take, Option, refl, sym, ap, subst, ◌∙◌, append_assoc, length-append, inl, inr, arith}
+use Rattle.std.proofs.Common.{◌≡◌, ℕ, zero, suc, ◌+◌, ◌≤◌, List, [], ◌∷◌, ◌++◌, length, take, Option, refl, sym, ap, subst, ◌∙◌, append_assoc, length-append, inl, inr, ◌⊎◌, arith}
 use Rattle.std.proofs.lemmas.Bool.{cases_lt}
 use Rattle.std.proofs.lemmas.List.{take-append-le, take_all}
 use Rattle.std.proofs.Math.Seq.{take-append-add}
 use Rattle.kh_io.specs.declared.files.Files.{Files}
-use Rattle.kh_io.specs.Told.{Told}
-use Rattle.kh_io.proofs.{told_both}
+use Rattle.kh_io.specs.View.{View}
 use Rattle.kh_text_defs.specs.Shown.{shown_line}
 use Rattle.kh_read.specs.declared.form.Form.{Form}
-use Rattle.kh_store.specs.State.{State, store_reply, store_after, log_with, state_after, log_after, text_of}
+use Rattle.kh_store.specs.State.{State, store_reply, store_after, state_after, text_of}
 use Rattle.kh_store.specs.Recovery.{Recovered, Recovers}
-use Rattle.khepri.specs.Session.{Answering, HasPrefix, KeepsAnswered}
+use Rattle.khepri.specs.Session.{RecoversAt, RecoversBy, HasPrefix, KeepsAnswered}
 
 pub state_after-append : (forms others : List Form) (s : State) → state_after (forms ++ others) s ≡ state_after others (state_after forms s)
 state_after-append [] others s = refl
@@ -21,20 +20,6 @@ text_of-append [] others s = refl
 text_of-append (form ∷ forms) others s =
     ap (λ (t : List ℕ). shown_line (store_reply form s) ++ t) (text_of-append forms others (store_after form s))
     ∙ sym (append_assoc (shown_line (store_reply form s)) (text_of forms (store_after form s)) (text_of others (state_after forms (store_after form s))))
-
-log_after-append : (forms others : List Form) (s : State) (log : List ℕ) → log_after (forms ++ others) s log ≡ log_after others (state_after forms s) (log_after forms s log)
-log_after-append [] others s log = refl
-log_after-append (form ∷ forms) others s log = log_after-append forms others (store_after form s) (log_with form s log)
-
-pub log_behind : (first mid : State) (forms others : List Form) (was between : List ℕ) → mid ≡ state_after forms first → between ≡ log_after forms first was
-    → log_after others mid between ≡ log_after (forms ++ others) first was
-log_behind first mid forms others was between is log =
-    ap (λ (t : State). log_after others t between) is ∙ ap (log_after others (state_after forms first)) log ∙ sym (log_after-append forms others first was)
-
--- the log after more commands
-pub logs_both : (a b c : Option (List ℕ)) (first mid : State) (forms others : List Form) → mid ≡ state_after forms first → Told a b (λ was now. now ≡ log_after forms first was)
-    → Told b c (λ was now. now ≡ log_after others mid was) → Told a c (λ was now. now ≡ log_after (forms ++ others) first was)
-logs_both a b c first mid forms others is before behind = told_both a b c before behind (λ x y z p q. q ∙ log_behind first mid forms others x y is p)
 
 -- the text of more commands is no shorter
 text_grows : (k j : ℕ) (forms : List Form) (s : State) → k ≤ j → length (text_of (take k forms) s) ≤ length (text_of (take j forms) s)
@@ -108,15 +93,19 @@ prefix_behind first mid forms others from between files s is taken has =
       ));
     }
 
+-- the state after a command behind others
+pub behind : (first mid : State) (forms : List Form) (form : Form) (files : Files) → mid ≡ state_after forms first → Recovers files (Recovered (store_after form mid))
+    → Recovers files (Recovered (state_after (forms ++ form ∷ []) first))
+behind first mid forms form files is recovers =
+    subst (λ (t : State). Recovers files (Recovered t)) (sym (state_after-append forms (form ∷ []) first))
+    (subst (λ (t : State). Recovers files (Recovered (store_after form t))) is recovers)
+
 -- a command is executed behind others, and its reply given
-pub answering_is_prefix : (first mid : State) (forms : List Form) (form : Form) (from before now : ℕ) → mid ≡ state_after forms first
-    → before ≤ from + length (text_of forms first) → now ≤ from + length (text_of (forms ++ form ∷ []) first)
-    → (files : Files) (s : ℕ) → Answering form mid before now files s → HasPrefix first (forms ++ form ∷ []) from files s
-answering_is_prefix first mid forms form from before now is taken taken_now files s (inl old) =
+pub answering_is_prefix : (first mid : State) (forms : List Form) (form : Form) (from : ℕ) (v w : View) → mid ≡ state_after forms first
+    → v.stamp ≤ from + length (text_of forms first) → w.stamp ≤ from + length (text_of (forms ++ form ∷ []) first)
+    → (files : Files) (s : ℕ) → RecoversAt mid v files s ⊎ RecoversBy (store_after form mid) w files s → HasPrefix first (forms ++ form ∷ []) from files s
+answering_is_prefix first mid forms form from v w is taken taken_now files s (inl old) =
     prefix_more first forms (form ∷ []) from files s
     (prefix_whole first forms from files s (subst (λ (t : State). Recovers files (Recovered t)) is old.1) (omega (arith, old.0, taken)))
-answering_is_prefix first mid forms form from before now is taken taken_now files s (inr new) =
-    prefix_whole first (forms ++ form ∷ []) from files s
-    (subst (λ (t : State). Recovers files (Recovered t)) (sym (state_after-append forms (form ∷ []) first))
-    (subst (λ (t : State). Recovers files (Recovered (store_after form t))) is new.1))
-    (omega (arith, new.0, taken_now))
+answering_is_prefix first mid forms form from v w is taken taken_now files s (inr new) =
+    prefix_whole first (forms ++ form ∷ []) from files s (behind first mid forms form files is new.1) (omega (arith, new.0, taken_now))

@@ -8,3 +8,4 @@ pub mod Run
 pub mod Words
 pub mod Sound
 pub mod Plain
+pub mod InMemory

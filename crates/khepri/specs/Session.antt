@@ -1,23 +1,20 @@
 -- A session: the commands of a script, executed from a state on, and what a crash leaves meanwhile.
-use Rattle.std.specs.Prelude.{◌≡◌, ℕ, ◌+◌, ◌-◌, ◌<◌, ◌≤◌, ◌⊎◌, List, length, take}
+use Rattle.std.specs.Prelude.{◌≡◌, ℕ, ◌+◌, ◌-◌, ◌<◌, ◌≤◌, ◌⊎◌, IsTrue, List, [], ◌∷◌, ◌++◌, length, take}
 use Rattle.kh_io.specs.declared.files.Files.{Files}
+use Rattle.kh_io.specs.Told.{IsFrontOf}
 use Rattle.kh_io.specs.Disk.{AreImages}
+use Rattle.kh_io.specs.View.{View}
 use Rattle.kh_read.specs.declared.form.Form.{Form}
-use Rattle.kh_store.specs.State.{State, store_after, state_after, text_of}
+use Rattle.kh_store.specs.State.{State, store_logs, state_after, text_of}
 use Rattle.kh_store.specs.Recovery.{Recovered, Recovers}
 
--- What a crash may leave while the files aren't touched: what it might have left before, with a stamp from the one at entry to
--- the one at exit.
-pub record Untouched (image : ℕ → List ℕ → Type 0) (from to : ℕ) (files : Files) (s : ℕ) : Type 0 where
-  pub images : AreImages image files
-  pub at_least : from ≤ s
-  pub at_most : s ≤ to
+-- the files recover to a state, with the stamp of a moment
+abbrev pub RecoversAt : State → View → Files → ℕ → Type 0
+RecoversAt state v files s = (s ≡ v.stamp) × Recovers files (Recovered state)
 
--- What a crash may leave while a command is executed and its reply given: the state before it, with the stamp from before the
--- reply, or the state after it.
-abbrev pub Answering : Form → State → (from to : ℕ) → Files → ℕ → Type 0
-Answering form old from to files s =
-    ((s ≡ from) × Recovers files (Recovered old)) ⊎ ((s ≤ to) × Recovers files (Recovered (store_after form old)))
+-- or with no greater one
+abbrev pub RecoversBy : State → View → Files → ℕ → Type 0
+RecoversBy state v files s = (s ≤ v.stamp) × Recovers files (Recovered state)
 
 -- The files recover to the state after the first k commands, and the sink had taken no more than the replies to these.
 pub record HasPrefix (first : State) (forms : List Form) (from : ℕ) (files : Files) (s : ℕ) : Type 0 where
@@ -33,3 +30,21 @@ pub record KeepsAnswered (first : State) (forms : List Form) (from : ℕ) (files
   pub within : k ≤ length forms
   pub recovers : Recovers files (Recovered (state_after (take k forms) first))
   pub answered : (j : ℕ) → j < length forms → length (text_of (take j forms) first) < s - from → j < k
+
+-- A session that was cut off: commands were answered, at most so many behind them were executed, and a front of the replies to these was given.
+-- A crash from then on leaves the state after the answered ones, or after all of these.
+pub record CutOff (limit : ℕ) (first : State) (w : View) : Type 0 where
+  pub answered : List Form
+  pub last : List Form
+  pub few : length last ≤ limit
+  pub part : List ℕ
+  pub reply : IsFrontOf part (text_of last (state_after answered first))
+  pub images : (files : Files) → AreImages w.image files
+      → Recovers files (Recovered (state_after answered first)) ⊎ Recovers files (Recovered (state_after (answered ++ last) first))
+
+-- It was cut off at one command that is logged, and of its reply nothing was given.
+pub record IsInDoubt (first : State) (w : View) (session : CutOff 1 first w) : Type 0 where
+  pub form : Form
+  pub alone : session.last ≡ form ∷ []
+  pub logged : IsTrue (store_logs form (state_after session.answered first))
+  pub none : session.part ≡ []

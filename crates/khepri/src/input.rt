@@ -1,11 +1,8 @@
 //! The input comes in pieces.
-ghost use Rattle.std.specs.Prelude.{◌≡◌, ◌≢◌, ◌<◌, ◌≤◌, Err, length, IfOk, IfErr, OnErr};
-ghost use Rattle.kh_io.specs.Told.{Kept, Rose};
-ghost use Rattle.kh_io.specs.Disk.{FilesStay, LeavesOnly};
-ghost use Rattle.kh_log.specs.Calls.{Grows};
+ghost use Rattle.std.specs.Prelude.{◌≡◌, ◌<◌, ◌≤◌, Err, length, IfOk, IfErr, OnErr};
+ghost use Rattle.kh_io.specs.Frames.{FilesStay, SinkStays, Cause, During, OfView};
 ghost use Rattle.khepri.specs.Input.{TakesMore, TakeStops};
 ghost use Rattle.khepri.specs.Script.{script_limit};
-ghost use Rattle.khepri.specs.Session.{Untouched};
 
 use crate::session::Stop;
 use kh_io::Host;
@@ -30,18 +27,16 @@ pub fn take_more<H: Host>(
 ) -> Result<Piece, Stop>
     requires some { 0 < length buffer.old }
     requires short { length input.old.items ≤ script_limit }
-    ensures taken { IfOk result (λ piece. TakesMore piece (H.left host.old) (H.left host.new) input.old.items input.new.items) }
-    ensures stops { IfErr result (λ stop. TakeStops stop (H.left host.old) (H.left host.new) input.old.items (Rose (H.read_faults host.old) (H.read_faults host.new))) }
+    ensures taken { IfOk result (λ piece. TakesMore piece (H.view host.old)
+        (H.view host.new) input.old.items input.new.items) }
+    ensures stops { IfErr result (λ stop. TakeStops stop (H.view host.old)
+        (H.view host.new) input.old.items) }
     ensures kept { OnErr result (input.new.items ≡ input.old.items) }
-    ensures no_fault { result ≢ Err Stop.ReadFault → H.read_faults host.new ≡ H.read_faults host.old }
-    ensures sink { Kept (H.given host.old) (H.given host.new) }
-    ensures files { FilesStay (H.seen host.old) (H.seen host.new) (H.image host.old) (H.image host.new) }
-    ensures any_moment { LeavesOnly (H.moment host.old) (H.moment host.new) (H.left_since host.old) (H.left_since host.new)
-        (Untouched (H.image host.old) (H.stamp host.old) (H.stamp host.new)) }
-    ensures stamp { H.stamp host.new ≡ H.stamp host.old }
-    ensures write_faults { H.write_faults host.new ≡ H.write_faults host.old }
-    ensures disk_faults { H.disk_faults host.new ≡ H.disk_faults host.old }
-    ensures grows { Grows (H.journal host.old) (H.journal host.new) }
+    ensures cause { Cause (result ≡ Err Stop.ReadFault) (H.view host.old).faults.reads
+        (H.view host.new).faults.reads }
+    ensures files { FilesStay (H.view host.old) (H.view host.new) }
+    ensures during { During (OfView (H.view host.old)) (H.view host.old) (H.view host.new) }
+    ensures sink { SinkStays (H.view host.old) (H.view host.new) }
 {
     let room = SCRIPT_LIMIT - input.len();
     let want = room.min(buffer.len()).max(1);

@@ -4,6 +4,7 @@
 mod damage;
 mod input;
 mod line;
+mod memory;
 mod output;
 #[cfg(test)]
 mod plain;

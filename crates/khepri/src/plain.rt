@@ -34,7 +34,8 @@ pub fn plain_session(alloc: Global, script: &[u8]) -> Result<(Vec<u8>, u8), NoMe
 
 // Executes a form, and adds its reply to the text.
 fn add_reply(alloc: Global, text: &mut Vec<u8>, tree: &mut Tree, form: Form) -> Result<(), NoMemory>
-    ensures text { OnOk result (text.new.items ≡ text.old.items ++ shown_line (reply_to form tree.old)) }
+    ensures text { OnOk result (text.new.items ≡ text.old.items ++ shown_line
+        (reply_to form tree.old)) }
     ensures tree { OnOk result (tree.new ≡ after form tree.old) }
 {
     let applied = tree.apply(alloc, form)?;

@@ -1,11 +1,9 @@
 //! A whole run: the store is opened, pieces of the input come, and their lines are answered.
-ghost use Rattle.std.specs.Prelude.{◌≡◌, ◌≢◌, ◌<◌, ◌⊎◌, Err, length, OnOk};
-ghost use Rattle.kh_io.specs.Told.{Told, Extends, Rose};
-ghost use Rattle.kh_log.specs.Calls.{Grows};
+ghost use Rattle.std.specs.Prelude.{◌≡◌, ◌≢◌, ◌<◌, ℕ, Err, length, IsSome};
+ghost use Rattle.kh_io.specs.Frames.{FilesTold, Causes};
 ghost use Rattle.kh_store.specs.Recovery.{Recovery, Recovers};
-ghost use Rattle.kh_store.specs.Store.{FilesTold, state_of, Stands, AreSafe, Begun, InTurn, GainsRecords, WritesLogAlone};
-ghost use Rattle.kh_store.specs.Opening.{BeginByOpening};
-ghost use Rattle.khepri.specs.Run.{stop_status, run_status, Ends, Runs, FindsDamage, Never, AsOpened};
+ghost use Rattle.kh_store.specs.Store.{state_of, Stands};
+ghost use Rattle.khepri.specs.Run.{stop_status, run_status, Ends, Runs, FindsDamage};
 
 use crate::damage::report;
 use crate::input::{Piece, take_more};
@@ -36,22 +34,13 @@ impl Stop {
 
 /// Opens the store in the files of the host, and answers the script that it gives.
 pub fn run<H: Host>(alloc: Global, host: &mut H) -> Result<(), Stop>
-    ensures ran { FilesTold (H.seen host.old) (H.seen host.new) (λ files. (found : Recovery) → Recovers files found → Runs found (run_status result) files
-        (record { stamp = H.stamp host.old; from = H.moment host.old; to = H.moment host.new; past = H.left_since host.old; since = H.left_since host.new; was = H.seen host.old 1; now = H.seen host.new 1 })
-        (H.image host.old) (H.image host.new) (H.seen host.old) (H.seen host.new) (H.left host.old) (H.left host.new) (H.given host.old) (H.given host.new)
-        (H.journal host.old) (H.journal host.new)) }
-    ensures files { WritesLogAlone (H.seen host.old) (H.seen host.new) (H.image host.old) (H.image host.new) (H.moment host.old) (H.moment host.new) (H.left_since host.old) (H.left_since host.new) }
-    ensures log { result ≢ Err Stop.DiskFault → Told (H.seen host.old 1) (H.seen host.new 1) (InTurn Begun GainsRecords) }
-    ensures opening { result ≢ Err Stop.DiskFault → result ≢ Err Stop.NoMemory → Told (H.seen host.old 1) (H.seen host.new 1)
-        (λ was _. Extends (H.journal host.old) (H.journal host.new) (BeginByOpening was)) }
-    ensures safe { result ≢ Err Stop.DiskFault → AreSafe (H.seen host.new) (H.image host.new) }
-    ensures damage { result ≡ Err Stop.Damaged → FilesTold (H.seen host.old) (H.seen host.new) FindsDamage }
-    ensures reads { result ≡ Err Stop.ReadFault → Rose (H.read_faults host.old) (H.read_faults host.new) }
-    ensures writes { result ≡ Err Stop.WriteFault → Rose (H.write_faults host.old) (H.write_faults host.new) }
-    ensures disk { result ≡ Err Stop.DiskFault → Rose (H.disk_faults host.old) (H.disk_faults host.new) }
-    ensures no_read_fault { result ≢ Err Stop.ReadFault → H.read_faults host.new ≡ H.read_faults host.old }
-    ensures no_write_fault { result ≢ Err Stop.WriteFault → H.write_faults host.new ≡ H.write_faults host.old }
-    ensures no_disk_fault { result ≢ Err Stop.DiskFault → H.disk_faults host.new ≡ H.disk_faults host.old }
+    ensures ran { FilesTold (H.view host.old) (H.view host.new)
+        (λ files. (found : Recovery) → Recovers files found
+        → Runs found (run_status result) (H.view host.old) (H.view host.new)) }
+    ensures damage { result ≡ Err Stop.Damaged
+        → FilesTold (H.view host.old) (H.view host.new) FindsDamage }
+    ensures causes { Causes (result ≡ Err Stop.ReadFault) (result ≡ Err Stop.WriteFault)
+        (result ≡ Err Stop.DiskFault) (H.view host.old) (H.view host.new) }
 {
     match Store::open(alloc, host) {
         Ok(mut store) => {
@@ -74,22 +63,17 @@ fn answer_script<H: Host>(
     store: &mut Store,
     buffer: &mut [u8],
 ) -> Result<(), Stop>
-    requires stands { Stands store.old (H.seen host.old 1) (H.image host.old 1) }
+    requires stands { Stands store.old (H.view host.old) }
     requires room { 0 < length buffer.old }
-    ensures ran { Ends (state_of store.old) (run_status result) Never AsOpened
-        (record { stamp = H.stamp host.old; from = H.moment host.old; to = H.moment host.new; past = H.left_since host.old; since = H.left_since host.new; was = H.seen host.old 1; now = H.seen host.new 1 })
-        (H.image host.new) (H.left host.old) (H.left host.new) (H.given host.old) (H.given host.new) }
-    ensures files { WritesLogAlone (H.seen host.old) (H.seen host.new) (H.image host.old) (H.image host.new) (H.moment host.old) (H.moment host.new) (H.left_since host.old) (H.left_since host.new) }
-    ensures log { result ≢ Err Stop.DiskFault → Told (H.seen host.old 1) (H.seen host.new 1) GainsRecords }
-    ensures stands { result ≢ Err Stop.DiskFault → Stands store.new (H.seen host.new 1) (H.image host.new 1) }
+    ensures ran { Ends (state_of store.old) (run_status result) (H.view host.old)
+        (H.view host.new) }
+    ensures stands { result ≢ Err Stop.DiskFault → Stands store.new (H.view host.new) }
     ensures damage { result ≡ Err Stop.Damaged → ⊥ }
-    ensures reads { result ≡ Err Stop.ReadFault → Rose (H.read_faults host.old) (H.read_faults host.new) }
-    ensures writes { result ≡ Err Stop.WriteFault → Rose (H.write_faults host.old) (H.write_faults host.new) }
-    ensures disk { result ≡ Err Stop.DiskFault → Rose (H.disk_faults host.old) (H.disk_faults host.new) }
-    ensures no_read_fault { result ≢ Err Stop.ReadFault → H.read_faults host.new ≡ H.read_faults host.old }
-    ensures no_write_fault { result ≢ Err Stop.WriteFault → H.write_faults host.new ≡ H.write_faults host.old }
-    ensures no_disk_fault { result ≢ Err Stop.DiskFault → H.disk_faults host.new ≡ H.disk_faults host.old }
-    ensures grows { Grows (H.journal host.old) (H.journal host.new) }
+    ensures causes { Causes (result ≡ Err Stop.ReadFault) (result ≡ Err Stop.WriteFault)
+        (result ≡ Err Stop.DiskFault) (H.view host.old) (H.view host.new) }
+    // What is told of the files at exit was told at entry.
+    ensures told { (file : ℕ) → file < 4 → IsSome ((H.view host.new).seen file)
+        → IsSome ((H.view host.old).seen file) }
 {
     let mut input = Vec::new(alloc);
     let mut at = 0;

@@ -3,6 +3,7 @@ mod limits;
 mod reopening;
 mod slow_host;
 
+use crate::memory::answer_in_memory;
 use crate::plain::plain_session;
 use crate::sound::answer_soundly;
 use crate::top::khepri;
@@ -111,7 +112,7 @@ fn words(alloc: Global, texts: &[&str]) -> Result<Vec<String>, Fail> {
 // The status of the program over a host in memory.
 fn run(alloc: Global, host: &mut MemoryHost) -> Result<u8, Fail> {
     let words = words(alloc, &["run"])?;
-    Ok(khepri(alloc, words.as_slice(), host))
+    Ok(answer_in_memory(alloc, words.as_slice(), host))
 }
 
 // The whole script comes at once, and each reply is taken whole.

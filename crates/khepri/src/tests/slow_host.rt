@@ -1,6 +1,4 @@
 //! A host that never fails, for tests.
-ghost use Rattle.std.specs.Prelude.{None};
-
 use kh_io::{Disk, Failed, Host};
 use std::alloc::Global;
 
@@ -40,28 +38,10 @@ impl SlowHost {
 
 impl Disk for SlowHost {
     ghost use Rattle.kh_io.specs.Laws.{untold_is_left, untold_images};
+    ghost use Rattle.kh_io.specs.View.{untold};
+    ghost use Rattle.khepri.specs.Sound.{none_failed};
 
-    ghost seen = { λ _ _. None };
-
-    ghost image = { λ _ _ _. ⊥ };
-
-    ghost moment = { λ _. 0 };
-
-    ghost stamp = { λ _. 0 };
-
-    ghost left_since = { λ _ _ _ _. ⊥ };
-
-    ghost left = { λ _. None };
-
-    ghost given = { λ _. None };
-
-    ghost journal = { λ _. None };
-
-    ghost disk_faults = { λ _. 0 };
-
-    ghost read_faults = { λ _. 0 };
-
-    ghost write_faults = { λ _. 0 };
+    ghost view = { λ _. untold none_failed };
 
     ghost seen_is_image = { λ _ _ bytes _ same. untold_is_left bytes same };
 

@@ -1,30 +1,50 @@
 use Rattle.std.proofs.Common.{length, arith}
-use Rattle.kh_io.proofs.{started, goes_on}
-use Rattle.kh_log.proofs.Writes.{torn_not, writing}
-use Rattle.kh_log.specs.Log.{Writing}
+use Rattle.std.proofs.lemmas.Bool.{false≢true}
+use Rattle.kh_io.proofs.{started, goes_on, caused_later, streams_both, others_both, told_map, told_both}
+use Rattle.kh_log.proofs.Writes.{writing, before_write}
 use Rattle.kh_log.proofs.durable.write_durably.Goals as goal
 
+pub write_at-requires-clause-room : goal.write_at-requires-clause-room
+write_at-requires-clause-room g c = record { start = c.requires.start; end = c.requires.end }
+
 -- the write alone
-pub returns-in_err-write_at-clause-any_moment : goal.returns-in_err-write_at-clause-any_moment
-returns-in_err-write_at-clause-any_moment g c =
-    let P = Writing c.args.file (g.D.Disk.image c.args.disk.now) (g.D.Disk.stamp c.args.disk.now) c.args.at (length c.args.bytes.now) in
-    let at_start = started {P = P} (g.D.Disk.moment c.args.disk.now) (g.D.Disk.left_since c.args.disk.now) (λ files s left.
-    let now = g.met.D.Disk.only_now c.args.disk.now files s left in
-    writing _ _ _ _ c.requires.file (λ bytes image. (bytes, image, torn_not _ _ bytes)) (λ other lt not bytes image. image) files s now.0 now.1) in
-    goes_on at_start c.write_at.ensures.time (λ files s images least most.
-    writing _ _ _ _ c.requires.file c.write_at.ensures.images.only (λ other lt not. (c.write_at.ensures.others other lt not).only) files s images (omega (arith, least, most, c.write_at.ensures.stamp)))
+pub returns-in_err-write_at-clause-writes : goal.returns-in_err-write_at-clause-writes
+returns-in_err-write_at-clause-writes g c =
+    let v = g.D.Disk.view c.args.disk.now in
+    let w = g.D.Disk.view c.write_at.new.self in
+    let e = c.write_at.ensures in
+    let at_start = started v (λ files s left. before_write c.args.file c.args.at (length c.args.bytes.now) v c.requires.file files s (g.met.D.Disk.only_now c.args.disk.now files s left)) in
+    record {
+      own = told_map (v.seen c.args.file) (w.seen c.args.file) c.in_err-write_at.ensures.part_written (λ a b torn. tt);
+      others = e.others;
+      during = goes_on at_start e.time (λ files s images least most.
+          writing c.args.file c.args.at (length c.args.bytes.now) v w.image c.requires.file e.images.only (λ other lt not. (e.others other lt not).only) files s images
+          (omega (arith, least, most, e.streams.stamp)));
+      streams = e.streams;
+    }
 
 -- the write and then the sync
-pub returns-clause-any_moment : goal.returns-clause-any_moment
-returns-clause-any_moment g c =
-    let P = Writing c.args.file (g.D.Disk.image c.args.disk.now) (g.D.Disk.stamp c.args.disk.now) c.args.at (length c.args.bytes.now) in
-    let at_start = started {P = P} (g.D.Disk.moment c.args.disk.now) (g.D.Disk.left_since c.args.disk.now) (λ files s left.
-    let now = g.met.D.Disk.only_now c.args.disk.now files s left in
-    writing _ _ _ _ c.requires.file (λ bytes image. (bytes, image, torn_not _ _ bytes)) (λ other lt not bytes image. image) files s now.0 now.1) in
-    let written = goes_on at_start c.write_at.ensures.time (λ files s images least most.
-    writing _ _ _ _ c.requires.file c.write_at.ensures.images.only (λ other lt not. (c.write_at.ensures.others other lt not).only) files s images (omega (arith, least, most, c.write_at.ensures.stamp))) in
-    goes_on written c.sync.ensures.time (λ files s images least most.
-    writing _ _ _ _ c.requires.file
-    (λ bytes image. c.write_at.ensures.images.only bytes (c.sync.ensures.no_new_images bytes image))
-    (λ other lt not bytes image. (c.write_at.ensures.others other lt not).only bytes ((c.sync.ensures.others other lt not).only bytes image))
-    files s images (omega (arith, least, most, c.write_at.ensures.stamp, c.sync.ensures.stamp)))
+pub returns-clause-writes : goal.returns-clause-writes
+returns-clause-writes g c =
+    let u = g.D.Disk.view c.args.disk.now in
+    let v = g.D.Disk.view c.write_at.new.self in
+    let w = g.D.Disk.view c.sync.new.self in
+    let e = c.write_at.ensures in
+    let f = c.sync.ensures in
+    let at_start = started u (λ files s left. before_write c.args.file c.args.at (length c.args.bytes.now) u c.requires.file files s (g.met.D.Disk.only_now c.args.disk.now files s left)) in
+    let written = goes_on at_start e.time (λ files s images least most.
+    writing c.args.file c.args.at (length c.args.bytes.now) u v.image c.requires.file e.images.only (λ other lt not. (e.others other lt not).only) files s images
+    (omega (arith, least, most, e.streams.stamp))) in
+    record {
+      own = told_both (u.seen c.args.file) (v.seen c.args.file) (w.seen c.args.file) c.in_ok-write_at.ensures.written f.read (λ x y z p q. tt);
+      others = others_both c.args.file u v w e.others f.others;
+      during = goes_on written f.time (λ files s images least most.
+          writing c.args.file c.args.at (length c.args.bytes.now) u w.image c.requires.file
+          (λ bytes image. e.images.only bytes (f.no_new_images bytes image))
+          (λ other lt not bytes image. (e.others other lt not).only bytes ((f.others other lt not).only bytes image))
+          files s images (omega (arith, least, most, e.streams.stamp, f.streams.stamp)));
+      streams = streams_both e.streams f.streams;
+    }
+
+pub returns-clause-cause : goal.returns-clause-cause
+returns-clause-cause g c = caused_later (c.in_ok-write_at.ensures.cause.no_fault false≢true) c.sync.ensures.cause

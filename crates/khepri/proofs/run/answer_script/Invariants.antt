@@ -1,26 +1,21 @@
-use Rattle.std.proofs.Common.{◌≡◌, ◌-◌, length}
+use Rattle.std.proofs.Common.{◌≡◌, ◌-◌, ◌<◌, ℕ, length}
+use Rattle.std.specs.Prelude.{IsSome}
 use Rattle.khepri.specs.Script.{script_limit}
-use Rattle.kh_io.specs.Told.{Told}
-use Rattle.kh_log.specs.Calls.{Grows}
-use Rattle.kh_store.specs.Store.{state_of, Stands, GainsRecords, WritesLogAlone}
-use Rattle.khepri.proofs.Running.{IsRunning, view_of}
+use Rattle.kh_store.specs.Store.{state_of, Stands}
+use Rattle.khepri.proofs.Running.{IsRunning}
 use Rattle.khepri.proofs.run.answer_script.Given as goal
 
 abbrev pub invariant-pieces : goal.invariant-pieces
 invariant-pieces g l =
-    let host = g.H.Disk in
+    let v = g.H.Disk.view l.fn.host in
+    let w = g.H.Disk.view l.host in
     record {
-      run : IsRunning (view_of host.left host.given host.seen host.stamp host.moment host.left_since g.met.H.Disk.stamp_counts l.fn.host)
-          (view_of host.left host.given host.seen host.stamp host.moment host.left_since g.met.H.Disk.stamp_counts l.host)
-          l.input.items l.at (state_of l.fn.store) (state_of l.store);
-      stands : Stands l.store (host.seen l.host 1) (host.image l.host 1);
-      files : WritesLogAlone (host.seen l.fn.host) (host.seen l.host) (host.image l.fn.host) (host.image l.host)
-          (host.moment l.fn.host) (host.moment l.host) (host.left_since l.fn.host) (host.left_since l.host);
-      log : Told (host.seen l.fn.host 1) (host.seen l.host 1) GainsRecords;
-      grows : Grows (host.journal l.fn.host) (host.journal l.host);
-      reads : host.read_faults l.host ≡ host.read_faults l.fn.host;
-      writes : host.write_faults l.host ≡ host.write_faults l.fn.host;
-      disk : host.disk_faults l.host ≡ host.disk_faults l.fn.host;
+      run : IsRunning v w l.input.items l.at (state_of l.fn.store) (state_of l.store);
+      stands : Stands l.store w;
+      told : (file : ℕ) → file < 4 → IsSome (w.seen file) → IsSome (v.seen file);
+      reads : w.faults.reads ≡ v.faults.reads;
+      writes : w.faults.writes ≡ v.faults.writes;
+      disk : w.faults.disk ≡ v.faults.disk;
     }
 
 abbrev pub decreases-pieces : goal.decreases-pieces

@@ -1,55 +1,42 @@
-use Rattle.std.proofs.Common.{◌∙◌, ap, arith}
+use Rattle.std.proofs.Common.{◌∙◌, Err, ap, arith}
+use Rattle.kh_io.proofs.{not_caused, caused_later, cause_map}
 use Rattle.kh_text_defs.specs.Shown.{shown_line}
-use Rattle.khepri.proofs.Answering.{none_given, front_given, answered}
-use Rattle.kh_store.proofs.{written_then, gains_then, gains_kept}
-use Rattle.khepri.proofs.Pieces.{none_touched}
+use Rattle.kh_store.specs.Store.{state_of}
+use Rattle.khepri.proofs.Answering.{none_given, front_given, not_answered, answered}
 use Rattle.khepri.proofs.session.answer.Goals as goal
 
 pub returns-in-Err-DiskFault-clause-front : goal.returns-in-Err-DiskFault-clause-front
-returns-in-Err-DiskFault-clause-front g c =
-    let host = g.H.Disk in none_given (host.given c.args.host.now) (host.given c.execute.new.host) _ c.execute.ensures.sink
+returns-in-Err-DiskFault-clause-front g c = none_given (g.H.Disk.view c.args.host.now).given (g.H.Disk.view c.execute.new.host).given _ c.execute.ensures.writes.streams.sink
+
+pub returns-in-Err-DiskFault-clause-during : goal.returns-in-Err-DiskFault-clause-during
+returns-in-Err-DiskFault-clause-during g c =
+    not_answered (g.H.Disk.view c.execute.new.host) c.args.form (state_of c.args.store.now) (omega (arith, c.execute.ensures.writes.streams.stamp)) c.execute.ensures.writes.during
 
 pub returns-in-Err-NoMemory-clause-front : goal.returns-in-Err-NoMemory-clause-front
-returns-in-Err-NoMemory-clause-front g c =
-    let host = g.H.Disk in none_given (host.given c.args.host.now) (host.given c.execute.new.host) _ c.execute.ensures.sink
+returns-in-Err-NoMemory-clause-front g c = none_given (g.H.Disk.view c.args.host.now).given (g.H.Disk.view c.execute.new.host).given _ c.execute.ensures.writes.streams.sink
+
+pub returns-in-Err-NoMemory-clause-during : goal.returns-in-Err-NoMemory-clause-during
+returns-in-Err-NoMemory-clause-during g c =
+    not_answered (g.H.Disk.view c.execute.new.host) c.args.form (state_of c.args.store.now) (omega (arith, c.execute.ensures.writes.streams.stamp)) c.execute.ensures.writes.during
 
 pub returns-in_default-clause-front : goal.returns-in_default-clause-front
-returns-in_default-clause-front g c =
-    let host = g.H.Disk in none_given (host.given c.args.host.now) (host.given c.execute.new.host) _ c.execute.ensures.sink
+returns-in_default-clause-front g c = none_given (g.H.Disk.view c.args.host.now).given (g.H.Disk.view c.execute.new.host).given _ c.execute.ensures.writes.streams.sink
 
-pub returns-in-Ok-give_all-clause-any_moment : goal.returns-in-Ok-give_all-clause-any_moment
-returns-in-Ok-give_all-clause-any_moment g c =
-    let host = g.H.Disk in
-    answered c.args.form _ c.execute.new.self (host.seen c.execute.new.host) _ _ _ c.execute.ensures.stamp c.give_all.ensures.stamp
-    c.in-Ok.ensures.stands c.in-Ok.ensures.after c.execute.ensures.any_moment c.give_all.ensures.any_moment
+pub returns-in_default-clause-during : goal.returns-in_default-clause-during
+returns-in_default-clause-during g c =
+    not_answered (g.H.Disk.view c.execute.new.host) c.args.form (state_of c.args.store.now) (omega (arith, c.execute.ensures.writes.streams.stamp)) c.execute.ensures.writes.during
 
-pub returns-in-Ok-give_all-clause-files : goal.returns-in-Ok-give_all-clause-files
-returns-in-Ok-give_all-clause-files g c = written_then c.execute.ensures.files (none_touched c.give_all.ensures.files c.give_all.ensures.any_moment)
+pub returns-in-Ok-give_all-clause-during : goal.returns-in-Ok-give_all-clause-during
+returns-in-Ok-give_all-clause-during g c =
+    answered c.args.form (state_of c.args.store.now) c.execute.new.self c.execute.ensures.writes.streams.stamp c.give_all.ensures.input.stamp
+    c.in-Ok.ensures.stands c.in-Ok.ensures.after c.execute.ensures.writes.during c.give_all.ensures.during
+
+pub returns-clause-during : goal.returns-clause-during
+returns-clause-during g c =
+    answered c.args.form (state_of c.args.store.now) c.execute.new.self c.execute.ensures.writes.streams.stamp c.give_all.ensures.input.stamp
+    c.in-Ok.ensures.stands c.in-Ok.ensures.after c.execute.ensures.writes.during c.give_all.ensures.during
 
 pub returns-clause-front : goal.returns-clause-front
 returns-clause-front g c =
-    let host = g.H.Disk in
-    front_given (host.given c.args.host.now) (host.given c.execute.new.host) (host.given c.give_all.new.host) _ _
-    (c.as_slice.ensures.value ∙ c.in-Ok-print_line.ensures.line ∙ ap shown_line c.in-Ok.ensures.reply) c.execute.ensures.sink c.in-Err.ensures.front
-
-pub returns-clause-any_moment : goal.returns-clause-any_moment
-returns-clause-any_moment g c =
-    let host = g.H.Disk in
-    answered c.args.form _ c.execute.new.self (host.seen c.execute.new.host) _ _ _ c.execute.ensures.stamp c.give_all.ensures.stamp
-    c.in-Ok.ensures.stands c.in-Ok.ensures.after c.execute.ensures.any_moment c.give_all.ensures.any_moment
-
-pub returns-clause-files : goal.returns-clause-files
-returns-clause-files g c = written_then c.execute.ensures.files (none_touched c.give_all.ensures.files c.give_all.ensures.any_moment)
-
--- the log gains what the command logs
-pub returns-in-Ok-give_all-clause-log : goal.returns-in-Ok-give_all-clause-log
-returns-in-Ok-give_all-clause-log g c = λ no_fault.
-    let host = g.H.Disk in
-    gains_then (host.seen c.args.host.now 1) (host.seen c.execute.new.host 1) (host.seen c.give_all.new.host 1) (c.in-Ok.ensures.log (λ e. cc))
-    (gains_kept _ _ (c.give_all.ensures.files 1 (omega arith)).read)
-
-pub returns-clause-log : goal.returns-clause-log
-returns-clause-log g c = λ no_fault.
-    let host = g.H.Disk in
-    gains_then (host.seen c.args.host.now 1) (host.seen c.execute.new.host 1) (host.seen c.give_all.new.host 1) (c.in-Ok.ensures.log (λ e. cc))
-    (gains_kept _ _ (c.give_all.ensures.files 1 (omega arith)).read)
+    front_given (g.H.Disk.view c.args.host.now).given (g.H.Disk.view c.execute.new.host).given (g.H.Disk.view c.give_all.new.host).given _ _
+    (c.as_slice.ensures.value ∙ c.in-Ok-print_line.ensures.line ∙ ap shown_line c.in-Ok.ensures.reply) c.execute.ensures.writes.streams.sink c.in-Err.ensures.front

@@ -13,7 +13,7 @@ returns-in_err-bytes-clause-lacking g c = λ o is.
     let same : IsErrOf {T = Vec ℕ Global} (Err c.in_err-bytes.field-0.0) (NotALog o) = search rules in
     let lt : c.args.self.now.read < c.args.self.now.records =
     omega (arith, c.self.invariant.1, c.if-self.false, ap (λ (p : Place). p.read) c.self.view_is, ap (λ (p : Place). p.records) c.self.view_is) in
-    let P : Place → Type 0 = λ p. Told (g.H.Disk.seen c.args.host.now p.file) (g.H.Disk.seen c.record_bytes.new.disk p.file)
+    let P : Place → Type 0 = λ p. Told ((g.H.Disk.view c.args.host.now).seen p.file) ((g.H.Disk.view c.record_bytes.new.disk).seen p.file)
     (λ was _. (after : ℕ) → IsOpenAt p.next after was → after ≤ p.last → ⊥) in
     read_lacks c.args.self.now _ _ c.requires.found lt (subst P c.self.view_is (c.in_err-bytes.ensures.lacks o same))
 
@@ -21,7 +21,7 @@ pub returns-clause-next : goal.returns-clause-next
 returns-clause-next g c =
     let lt : c.args.self.now.read < c.args.self.now.records =
     omega (arith, c.self.invariant.1, c.if-self.false, ap (λ (p : Place). p.read) c.self.view_is, ap (λ (p : Place). p.records) c.self.view_is) in
-    let P : Place → Type 0 = λ p. Told (g.H.Disk.seen c.args.host.now p.file) (g.H.Disk.seen c.record_bytes.new.disk p.file)
+    let P : Place → Type 0 = λ p. Told ((g.H.Disk.view c.args.host.now).seen p.file) ((g.H.Disk.view c.record_bytes.new.disk).seen p.file)
     (λ was _. (after : ℕ) → IsOpenAt p.next after was → after ≤ p.last → c.in_ok-bytes.bytes.items ≡ record_at p.next was) in
     read_next c.args.self.now c.in_ok-bytes.bytes.items _ _ c.requires.found lt (subst P c.self.view_is c.in_ok-bytes.ensures.bytes)
 
@@ -30,13 +30,13 @@ returns-clause-holds g c =
     let lt : c.args.self.now.read < c.args.self.now.records =
     omega (arith, c.self.invariant.1, c.if-self.false, ap (λ (p : Place). p.read) c.self.view_is, ap (λ (p : Place). p.records) c.self.view_is) in
     let below : c.args.self.now.file < 4 = omega (arith, c.self.invariant.0, ap (λ (p : Place). p.file) c.self.view_is) in
-    let P : Place → Type 0 = λ p. Told (g.H.Disk.seen c.args.host.now p.file) (g.H.Disk.seen c.record_bytes.new.disk p.file)
+    let P : Place → Type 0 = λ p. Told ((g.H.Disk.view c.args.host.now).seen p.file) ((g.H.Disk.view c.record_bytes.new.disk).seen p.file)
     (λ was _. (after : ℕ) → IsOpenAt p.next after was → after ≤ p.last → c.in_ok-bytes.bytes.items ≡ record_at p.next was) in
-    let there = read_holds c.args.self.now c.in_ok-bytes.bytes.items (g.H.Disk.seen c.args.host.now c.args.self.now.file) (g.H.Disk.seen c.record_bytes.new.disk c.args.self.now.file)
-    (c.record_bytes.ensures.files c.args.self.now.file below).read c.requires.found lt (subst P c.self.view_is c.in_ok-bytes.ensures.bytes) in
+    let there = read_holds c.args.self.now c.in_ok-bytes.bytes.items ((g.H.Disk.view c.args.host.now).seen c.args.self.now.file) ((g.H.Disk.view c.record_bytes.new.disk).seen c.args.self.now.file)
+    (c.record_bytes.ensures.asks.files c.args.self.now.file below).read c.requires.found lt (subst P c.self.view_is c.in_ok-bytes.ensures.bytes) in
     let at : Place → ℕ → Place = λ p n. record { file = p.file; records = p.records; read = p.read + 1; next = n; last = p.last } in
     let len : c.len.result ≡ length c.in_ok-bytes.bytes.items = omega (arith, c.len.ensures, c.in_ok-bytes.bytes.ok) in
     let moved : c.self.inside.next + (5 + c.len.result) ≡ c.args.self.now.next + 5 + length c.in_ok-bytes.bytes.items =
     omega (arith, len, ap (λ (p : Place). p.next) c.self.view_is) in
-    subst (λ (p : Place). IfSome (g.H.Disk.seen c.record_bytes.new.disk c.args.self.now.file) (Holds p))
+    subst (λ (p : Place). IfSome ((g.H.Disk.view c.record_bytes.new.disk).seen c.args.self.now.file) (Holds p))
     (sym (ap (λ (p : Place). at p (c.self.inside.next + (5 + c.len.result))) c.self.view_is ∙ ap (at c.args.self.now) moved)) there
