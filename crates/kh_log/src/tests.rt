@@ -128,6 +128,9 @@ fn append_two<H: Host>(alloc: Global, host: &mut H) -> Result<(), LogError> {
         return Err(LogError::NotALog(0));
     }
     log.append(host, &first)?;
+    if log.end() > 100 {
+        return Err(LogError::NotALog(0));
+    }
     log.append(host, &second)?;
     Ok(())
 }
