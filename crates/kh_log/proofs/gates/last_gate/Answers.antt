@@ -1,4 +1,4 @@
-use Rattle.std.proofs.Common.{ℕ, List, refl, arith, rules, ◌∙◌, Err, Option}
+use Rattle.std.proofs.Common.{ℕ, refl, arith, rules, ◌∙◌, Err, Option}
 use Rattle.std.specs.Prelude.{IsErrOf}
 use Rattle.kh_io.proofs.{asks_none, asks_both}
 use Rattle.kh_log.specs.declared.error.LogError.TheVariants.{NotALog}

@@ -1,4 +1,4 @@
-use Rattle.std.proofs.Common.{◌≤◌, ◌+◌, ℕ, List}
+use Rattle.std.proofs.Common.{◌≤◌, ℕ}
 use Rattle.kh_io.proofs.{asks_both}
 use Rattle.kh_log.specs.Records.{IsOpenAt}
 use Rattle.kh_log.proofs.Walk.{told_again}

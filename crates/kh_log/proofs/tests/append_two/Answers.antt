@@ -1,11 +1,11 @@
-use Rattle.std.proofs.Common.{◌≡◌, ℕ, ◌++◌, List, Option, Some, None, sym, ap, subst, arith}
+use Rattle.std.proofs.Common.{ℕ, ◌++◌, List, Option, Some, None, sym, ap, subst, arith}
 use Rattle.std.specs.Prelude.{IfSome}
 use Rattle.std.proofs.lemmas.Grind.{common_steps}
 use Rattle.std.proofs.lemmas.Option.{same_Some}
 use Rattle.kh_io.specs.Told.{Told, Kept}
 use Rattle.kh_io.specs.Disk.{IsSafe}
 use Rattle.kh_log.specs.Records.{records_of, IsClosedAt}
-use Rattle.kh_log.specs.Log.{Place, Holds, ImagesAre, IsReady, EndsAt}
+use Rattle.kh_log.specs.Log.{Place, Holds, ImagesAre, EndsAt}
 use Rattle.kh_log.proofs.Opening.{closed_images}
 use Rattle.kh_log.proofs.tests.append_two.Goals as goal
 
