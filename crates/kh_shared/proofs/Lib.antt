@@ -1,0 +1,5 @@
+mod Owners
+mod Words
+mod Walks
+mod Pieces
+mod Steps
