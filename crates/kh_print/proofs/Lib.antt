@@ -2,3 +2,7 @@ mod Hex
 mod InTurn
 mod Joined
 mod Layers
+mod ShownTokens
+mod ShownTerms
+mod ShownMaps
+mod ShownAll

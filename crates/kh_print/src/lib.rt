@@ -2,7 +2,10 @@
 #![tactic(auto)]
 
 ghost use Rattle.std.specs.Prelude.{◌≡◌, IfOk};
+ghost use Rattle.kh_term.specs.Size.{depth_of};
+ghost use Rattle.kh_text_defs.specs.declared.mode.Mode.{Mode};
 ghost use Rattle.kh_text_defs.specs.Shown.{shown, shown_line};
+ghost use Rattle.kh_text_defs.specs.Spelled.{within_limits, Spells};
 
 mod atom;
 mod binary;
@@ -16,9 +19,11 @@ use crate::pieces::push_text;
 use kh_term::{NoMemory, Term};
 use std::alloc::Global;
 
-/// The canonical text of a term. Answers `NoMemory` where the text finds no room.
+/// The canonical text of a term, which spells the term, in a script as in a listing. Answers `NoMemory` where the text
+/// finds no room.
 pub fn print(alloc: Global, term: &Term) -> Result<Vec<u8>, NoMemory>
     ensures text { IfOk result (λ bytes. bytes.items ≡ shown term.now.node) }
+    ensures spelled { IfOk result (λ bytes. (mode : Mode) → Spells (within_limits mode) (depth_of term.now.node) bytes.items term.now.node) }
 {
     let mut out = Vec::new(alloc);
     push_node(&mut out, &term.node)?;

@@ -1,13 +1,12 @@
 -- Which texts spell which terms.
 use Rattle.std.specs.Prelude.{◌≡◌, ◌<◌, ◌≤◌, ℕ, zero, suc, Bool, true, false, ◌&&◌, ◌||◌, ◌==◌, not, nat_lt, nat_le, codes, IsTrue, Option, Some, None, List, [], ◌∷◌, ◌++◌, length, map, ◌⊎◌, if◌then◌else◌, ℤ, pos, negsuc}
-use Rattle.std.specs.Ordering.{is_eq, is_lt}
 use Rattle.std.specs.List.{list_all}
-use Rattle.std.specs.Str.{encode_utf8_all}
+use Rattle.std.specs.Str.{bytes_eq, encode_utf8_all}
 use Rattle.kh_term.specs.declared.name.Origin.{Origin}
 use Rattle.kh_term.specs.declared.tree.TermTree.{TermTree}
 use Rattle.kh_term.specs.declared.tree.TermTree.TheVariants as tree
 use Rattle.kh_term.specs.Make.{list_of, list_with_tail}
-use Rattle.kh_term.specs.Order.{term_cmp}
+use Rattle.kh_term.specs.MapOf.{map_of}
 use Rattle.kh_term.specs.WellFormed.{fits_128}
 use Rattle.kh_text_defs.specs.declared.mode.Mode.{Mode}
 use Rattle.kh_text_defs.specs.declared.mode.Mode.TheVariants.{Script, Listing}
@@ -15,19 +14,22 @@ use Rattle.kh_text_defs.specs.Atoms.{is_word_byte}
 use Rattle.kh_text_defs.specs.Blanks.{IsBlank, Wide, Commas, Elements}
 use Rattle.kh_text_defs.specs.Tokens.{are_digits, IsInteger, Quoted, SpellsAtom}
 
--- What is read: the texts of a mode, and which integers. Those of 128 bits are read; `limits aside` all are.
+-- What is read: the texts of a mode, with integers of 128 bits, or of any length where these limits are put aside.
 pub record Rules : Type 0 where
   pub mode : Mode
-  pub number : ℤ → Bool
+  pub bounded : Bool
 
 abbrev pub within_limits : Mode → Rules
-within_limits mode = record { mode = mode; number = fits_128 }
+within_limits mode = record { mode = mode; bounded = true }
 
 abbrev pub limits_aside : Mode → Rules
-limits_aside mode = record { mode = mode; number = λ z. true }
+limits_aside mode = record { mode = mode; bounded = false }
+
+abbrev pub allows : Rules → ℤ → Bool
+allows rules number = not rules.bounded || fits_128 number
 
 abbrev pub SpellsInteger : Rules → List ℕ → ℤ → Type 0
-SpellsInteger rules text number = IsInteger text number × IsTrue (rules.number number)
+SpellsInteger rules text number = IsInteger text number × IsTrue (allows rules number)
 
 -- what a listing holds that isn't supported
 abbrev pub unsupported : TermTree
@@ -85,6 +87,12 @@ abbrev pub begins_no_word : List ℕ → Bool
 begins_no_word [] = true
 begins_no_word (byte ∷ rest) = not (is_word_byte byte)
 
+-- The front of `#{` or `#fun{` up to the brace, which opens the level. It is no term: no byte comes behind it here, which is
+-- written as 256. So it begins one where no level is left too, and the brace is the fault.
+abbrev pub is_begun_sharp : List ℕ → Bool
+is_begun_sharp front =
+    bytes_eq front (codes "#") || bytes_eq front (codes "#f") || bytes_eq front (codes "#fu") || bytes_eq front (codes "#fun")
+
 -- An integer, an atom or a binary. In a listing also a float, and a function by module, name and arity.
 pub data SpellsFlat (rules : Rules) : List ℕ → TermTree → Type 0 where
   integer : (text : List ℕ) (z : ℤ) → SpellsInteger rules text z → SpellsFlat rules text (tree.Int z)
@@ -96,6 +104,7 @@ pub data SpellsFlat (rules : Rules) : List ℕ → TermTree → Type 0 where
   reference : (text home name gap digits : List ℕ) (m f : List ℕ) → rules.mode ≡ Listing → Wide SpellsAtom home m → Wide SpellsAtom name f
       → IsBlank gap → IsTrue (are_digits digits) → IsTrue (begins_no_word home)
       → text ≡ codes "fun" ++ (home ++ 58 ∷ (name ++ 47 ∷ (gap ++ digits))) → SpellsFlat rules text unsupported
+  begun_sharp : (text front : List ℕ) → IsTrue (is_begun_sharp front) → text ≡ front ++ 256 ∷ [] → SpellsFlat rules text tree.Nil
 
 -- ---- terms with levels
 
@@ -119,18 +128,7 @@ pub record SpellsPair (one : List ℕ → TermTree → Type 0) (text : List ℕ)
 abbrev pub KeyValues : Type 0
 KeyValues = List (TermTree × TermTree)
 
--- a key with its value among others that rise: in the place of an equal key, else where it keeps the order
-abbrev pub with_pair : TermTree × TermTree → KeyValues → KeyValues
-with_pair pair [] = pair ∷ []
-with_pair pair (p ∷ ps) =
-    if is_lt (term_cmp pair.0 p.0) then pair ∷ p ∷ ps else if is_eq (term_cmp pair.0 p.0) then pair ∷ ps else p ∷ with_pair pair ps
-
--- the map of pairs that were added one after another: of equal keys the last counts
-abbrev pub added : KeyValues → KeyValues → KeyValues
-added before [] = before
-added before (pair ∷ pairs) = added (with_pair pair before) pairs
-
--- a map's pairs: no one, or some with commas between them
+-- a map's pairs: none, or some with commas between them
 abbrev pub SpellsPairs : (List ℕ → TermTree → Type 0) → List ℕ → KeyValues → Type 0
 SpellsPairs one text pairs = (IsBlank text × (pairs ≡ [])) ⊎ Commas (SpellsPair one) text pairs
 
@@ -161,8 +159,8 @@ pub data SpellsDeep (rules : Rules) (one : List ℕ → TermTree → Type 0) : L
   points : (text points : List ℕ) → Quoted 34 text points → SpellsDeep rules one text (list_of_points points)
   tuple : (text inside : List ℕ) (parts : List TermTree) → Elements one inside parts
       → text ≡ 123 ∷ (inside ++ 125 ∷ []) → SpellsDeep rules one text (tree.Tuple parts)
-  map_of : (text inside : List ℕ) (pairs : KeyValues) → SpellsPairs one inside pairs
-      → text ≡ 35 ∷ 123 ∷ (inside ++ 125 ∷ []) → SpellsDeep rules one text (tree.Map (added [] pairs))
+  map_text : (text inside : List ℕ) (pairs : KeyValues) → SpellsPairs one inside pairs
+      → text ≡ 35 ∷ 123 ∷ (inside ++ 125 ∷ []) → SpellsDeep rules one text (tree.Map (map_of pairs))
   closure : (text home name number captured : List ℕ) (m f : List ℕ) (arity : ℤ) (env : List TermTree)
       → Wide SpellsAtom home m → Wide SpellsAtom name f → Wide (SpellsInteger rules) number arity → Wide (SpellsCaptured one) captured env
       → text ≡ codes "#fun{" ++ (home ++ 44 ∷ (name ++ 44 ∷ (number ++ 44 ∷ (captured ++ closure_end arity env ∷ []))))
