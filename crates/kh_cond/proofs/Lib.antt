@@ -1,0 +1,4 @@
+mod CondLayers
+mod Finding
+mod Known
+mod MatchLayers
