@@ -62,7 +62,7 @@ shown_function mode origin env each fit (suc levels) low =
     let one = Spells (within_limits mode) levels in
     let inside = with_commas (map shown env) in
     let captured : SpellsCaptured one (91 ∷ (inside ++ 93 ∷ [])) env =
-        (inside, elements_of mode env levels each (parts_of_closure origin env fit) (omega (arith, depth-Closure origin env, low)), refl) in
+    (inside, elements_of mode env levels each (parts_of_closure origin env fit) (omega (arith, depth-Closure origin env, low)), refl) in
     let ends : closure_end (pos origin.arity) env ≡ 125 = ap (λ b. if b then 125 else 256) (and_from _ _ whole.1 is.1) in
     deep (within_limits mode) levels _ _ (closure _ (shown_atom origin.module) (shown_atom origin.name) (decimal origin.arity) (91 ∷ (inside ++ 93 ∷ [])) origin.module origin.name (pos origin.arity) env
     (bare SpellsAtom _ _ (shown_name origin.module names.0)) (bare SpellsAtom _ _ (shown_name origin.name names.1))

@@ -107,9 +107,10 @@ pairs_each mode levels [] each fit low = tt
 pairs_each mode levels (p ∷ ps) each fit low =
     let split = sum-cons (pair_faults p) (map pair_faults ps) in
     let key : IsTerm p.0 = omega (arith, fit, split) in
-    let value : IsTerm p.1 = omega (arith, fit, split) in
-    (one_pair mode levels p (each.0.0 key levels (omega arith)) (each.0.1 value levels (omega arith)),
-    pairs_each mode levels ps each.1 (omega (arith, fit, split)) (omega arith))
+    let value : IsTerm p.1 = omega (arith, fit, split) in (
+      one_pair mode levels p (each.0.0 key levels (omega arith)) (each.0.1 value levels (omega arith)),
+      pairs_each mode levels ps each.1 (omega (arith, fit, split)) (omega arith),
+    )
 
 map_same : {A : Type 0} (xs : List A) → map (λ x. x) xs ≡ xs
 map_same [] = refl

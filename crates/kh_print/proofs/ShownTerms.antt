@@ -39,8 +39,12 @@ use Rattle.kh_print.proofs.ShownTokens.{shown_integer, shown_name}
 -- no blanks round a text
 pub bare : {A : Type 0} (Stands : List ℕ → A → Type 0) (text : List ℕ) (x : A) → Stands text x → Wide Stands text x
 bare Stands text x stands = record {
-  before = []; inside = text; behind = [];
-  blank_before = no_blank; stands = stands; blank_behind = no_blank;
+  before = [];
+  inside = text;
+  behind = [];
+  blank_before = no_blank;
+  stands = stands;
+  blank_behind = no_blank;
   parts = sym (append-nil text);
 }
 

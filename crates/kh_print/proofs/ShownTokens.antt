@@ -79,7 +79,7 @@ scalar_ascii c small = grind (arith, nat_tests)
 by_tests : (c : ℕ) (slash quote newline return_ tab control : Bool) → c < 128 → eqb c 92 ≡ slash → eqb c 39 ≡ quote → eqb c 10 ≡ newline
     → eqb c 13 ≡ return_ → eqb c 9 ≡ tab → (ltb c 32 || eqb c 127) ≡ control
     → Character 39 (cond slash (codes "\\\\") (cond quote (codes "\\'") (cond newline (codes "\\n") (cond return_ (codes "\\r") (cond tab (codes "\\t")
-      (cond control (codes "\\x{" ++ digits 16 false c ++ codes "}") (c ∷ []))))))) c
+    (cond control (codes "\\x{" ++ digits 16 false c ++ codes "}") (c ∷ []))))))) c
 by_tests c true q n r t k small e f g h i j = by_letter _ 92 c (ap Some (sym (eqb-true c 92 e))) refl
 by_tests c false true n r t k small e f g h i j = by_letter _ 39 c (ap Some (sym (eqb-true c 39 f))) refl
 by_tests c false false true r t k small e f g h i j = by_letter _ 110 c (ap Some (sym (eqb-true c 10 g))) refl
@@ -143,11 +143,15 @@ shown_name text is =
   where
     go : (plain : Bool) → is_plain text ≡ plain → IsUtf8 text
         → ((cond plain text (39 ∷ (flat_map quoted_byte text ++ 39 ∷ [])) ≡ text) × (is_plain_word text ≡ true))
-          ⊎ ((points : List ℕ) × Quoted 39 (cond plain text (39 ∷ (flat_map quoted_byte text ++ 39 ∷ []))) points × (text ≡ encode_utf8_all points))
+        ⊎ ((points : List ℕ) × Quoted 39 (cond plain text (39 ∷ (flat_map quoted_byte text ++ 39 ∷ []))) points × (text ≡ encode_utf8_all points))
     go true e utf8 = inl (refl, (and_parts _ _ e).0)
     go false e utf8 =
-        inr (utf8.0, record {
-          inside = flat_map quoted_byte text;
-          characters = subst (λ (t : List ℕ). Characters 39 (flat_map quoted_byte t) utf8.0) utf8.1.1 (quoted_characters utf8.0 utf8.1.0);
-          parts = refl;
-        }, sym utf8.1.1)
+        inr (
+          utf8.0,
+          record {
+            inside = flat_map quoted_byte text;
+            characters = subst (λ (t : List ℕ). Characters 39 (flat_map quoted_byte t) utf8.0) utf8.1.1 (quoted_characters utf8.0 utf8.1.0);
+            parts = refl;
+          },
+          sym utf8.1.1,
+        )
