@@ -1,2 +1,5 @@
+pub mod Exact
 pub mod Form
 pub mod Reading
+pub mod State
+pub mod Steps

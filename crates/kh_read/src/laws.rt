@@ -1,0 +1,18 @@
+//! Laws of the texts of a script.
+ghost use Rattle.std.specs.Prelude.{ℕ, List};
+ghost use Rattle.kh_read.specs.Exact.{FormsAreRead, IsReading, OneTermEach, reading};
+
+/// A text spells at most one term.
+pub fn one_term()
+    ensures { OneTermEach }
+{}
+
+/// What reading byte by byte says of bytes holds of them.
+pub fn readings_are_exact()
+    ensures { (bytes : List ℕ) → IsReading bytes (reading bytes) }
+{}
+
+/// A form within all limits is read, where what comes behind it may follow.
+pub fn forms_are_read()
+    ensures { FormsAreRead }
+{}
