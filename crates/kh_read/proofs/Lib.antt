@@ -51,3 +51,4 @@ mod TextTrace
 mod TextOne
 mod TextWider
 mod TextAll
+mod TextStays

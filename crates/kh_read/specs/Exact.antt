@@ -1,5 +1,5 @@
 -- What reading a form byte by byte says of the bytes, in a script.
-use Rattle.std.specs.Prelude.{◌≡◌, ◌<◌, ◌≤◌, ◌+◌, ℕ, true, List, ◌++◌, length, take}
+use Rattle.std.specs.Prelude.{◌≡◌, ◌<◌, ◌≤◌, ◌+◌, ℕ, true, List, ◌++◌, length, take, ◌⊎◌, ⊤}
 use Rattle.kh_term.specs.declared.tree.TermTree.{TermTree}
 use Rattle.kh_text_defs.specs.declared.mode.Mode.TheVariants.{Script}
 use Rattle.kh_text_defs.specs.Blanks.{may_follow}
@@ -43,3 +43,12 @@ OneTermEach =
 abbrev pub FormsAreRead : Type 0
 FormsAreRead =
     (form rest : List ℕ) (t : TermTree) → IsReadable Script form t → may_follow rest ≡ true → reading (form ++ rest) ≡ Ended t (length form)
+
+-- Later bytes don't change what was read: a fault, a form with a byte behind it, and a form behind which they may follow.
+abbrev pub IsSettled : List ℕ → List ℕ → Reading → Type 0
+IsSettled bytes more (Ended t end) = (end < length bytes) ⊎ (may_follow more ≡ true)
+IsSettled bytes more Cut = ⊥
+IsSettled bytes more (Halted halt n) = ⊤
+
+abbrev pub LaterBytesChangeNothing : Type 0
+LaterBytesChangeNothing = (bytes more : List ℕ) → IsSettled bytes more (reading bytes) → reading (bytes ++ more) ≡ reading bytes

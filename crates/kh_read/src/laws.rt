@@ -1,6 +1,6 @@
 //! Laws of the texts of a script.
 ghost use Rattle.std.specs.Prelude.{ℕ, List};
-ghost use Rattle.kh_read.specs.Exact.{FormsAreRead, IsReading, OneTermEach, reading};
+ghost use Rattle.kh_read.specs.Exact.{FormsAreRead, IsReading, LaterBytesChangeNothing, OneTermEach, reading};
 
 /// A text spells at most one term.
 pub fn one_term()
@@ -15,4 +15,9 @@ pub fn readings_are_exact()
 /// A form within all limits is read, where what comes behind it may follow.
 pub fn forms_are_read()
     ensures { FormsAreRead }
+{}
+
+/// Later bytes mend no fault and change no form that was read, where they may follow it.
+pub fn readings_stay()
+    ensures { LaterBytesChangeNothing }
 {}

@@ -13,5 +13,5 @@ mod tests;
 
 pub use error::ReadError;
 pub use form::Form;
-pub use laws::{forms_are_read, one_term, readings_are_exact};
+pub use laws::{forms_are_read, one_term, readings_are_exact, readings_stay};
 pub use read::{a_form_takes_bytes, at_most_one_form, later_bytes_change_nothing, read_form};
