@@ -1,14 +1,18 @@
 //! Code: instructions, functions and modules, and the terms that spell them.
 #![tactic(auto)]
 
+mod builtin;
 mod functions;
 mod instr;
+mod laws;
 mod module;
 mod operand;
 mod test;
 
+pub use builtin::{BUILTINS, Builtin, Row, SERVICES, Service, builtin_of, service_of};
 pub use functions::Functions;
 pub use instr::{Instr, Instrs};
+pub use laws::relabelling_keeps_the_effect;
 pub use module::{Export, Exports, Function, Module, Standalone};
 pub use operand::{Cases, Gets, Puts, Reg, Regs, Sizes, Source, Sources};
 pub use test::{Comparison, Test, TypeTest};
