@@ -1,3 +1,6 @@
+pub mod Code
+pub mod Emitted
 pub mod Laws
 pub mod Syntax
 pub mod Tables
+pub mod Written

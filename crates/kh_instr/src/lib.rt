@@ -5,6 +5,7 @@ mod builtin;
 mod functions;
 mod instr;
 mod laws;
+mod meaning;
 mod module;
 mod operand;
 mod test;
@@ -13,6 +14,7 @@ pub use builtin::{BUILTINS, Builtin, Row, SERVICES, Service, builtin_of, service
 pub use functions::Functions;
 pub use instr::{Instr, Instrs};
 pub use laws::relabelling_keeps_the_effect;
+pub use meaning::Meaning;
 pub use module::{Export, Exports, Function, Module, Standalone};
 pub use operand::{Cases, Gets, Puts, Reg, Regs, Sizes, Source, Sources};
 pub use test::{Comparison, Test, TypeTest};
