@@ -3,4 +3,5 @@ pub mod Emitted
 pub mod Laws
 pub mod Syntax
 pub mod Tables
+pub mod Words
 pub mod Written

@@ -9,6 +9,7 @@ mod meaning;
 mod module;
 mod operand;
 mod test;
+mod words;
 
 pub use builtin::{BUILTINS, Builtin, Row, SERVICES, Service, builtin_of, service_of};
 pub use functions::Functions;
@@ -18,3 +19,4 @@ pub use meaning::Meaning;
 pub use module::{Export, Exports, Function, Module, Standalone};
 pub use operand::{Cases, Gets, Puts, Reg, Regs, Sizes, Source, Sources};
 pub use test::{Comparison, Test, TypeTest};
+pub use words::{Spelled, Word};
