@@ -1,1 +1,4 @@
+mod Each
+mod Literals
 mod Relabel
+mod Trees

@@ -1,6 +1,8 @@
 pub mod Code
 pub mod Emitted
 pub mod Laws
+pub mod Operands
+pub mod Rows
 pub mod Syntax
 pub mod Tables
 pub mod Words

@@ -8,6 +8,8 @@ mod laws;
 mod meaning;
 mod module;
 mod operand;
+mod operands;
+mod shapes;
 mod test;
 mod words;
 
