@@ -1,16 +1,18 @@
 -- Whether a literal holds the atom `'$unsupported'`, variant by variant.
-use Rattle.std.proofs.Common.{◌≡◌, ◌<◌, ◌≤◌, ℕ, ◌+◌, Bool, true, false, ◌||◌, List, [], ◌∷◌, length, map, drop, get_or, refl, ap, sym, ◌∙◌, codes, add-one, drop-cons, ℤ}
+use Rattle.std.proofs.Common.{◌≡◌, ◌<◌, ◌≤◌, ℕ, ◌+◌, Bool, true, false, ◌||◌, if◌then◌else◌, Option, Some, None, List, [], ◌∷◌, length, map, drop, get_or, refl, ap, sym, ◌∙◌, codes, add-one, drop-cons, ℤ}
 use Rattle.std.proofs.lemmas.List.{drop_all}
 use Rattle.std.specs.Str.{bytes_eq}
 use Rattle.kh_term.specs.declared.name.Origin.{Origin}
 use Rattle.kh_term.specs.declared.term.Term.{Term}
 use Rattle.kh_term.specs.declared.tree.TermTree.{TermTree}
-use Rattle.kh_term.specs.Whole.{whole}
+use Rattle.kh_term.proofs.Same.{whole_is}
+use Rattle.kh_instr.specs.declared.operand.Source.{Source}
+use Rattle.kh_instr.specs.declared.operand.Source.TheVariants as source
 use Rattle.kh_term.specs.declared.tree.TermTree.TheVariants as tree
 use Rattle.kh_term.specs.declared.tree.TermTree.TheVariants.{rolls-Int, rolls-Atom, rolls-Bin, rolls-Nil, rolls-List, rolls-Tuple, rolls-Map, rolls-Closure}
 use Rattle.kh_term.specs.declared.tree.TermTree.TheOpen as layer
 use Rattle.kh_term.specs.declared.tree.TermTree.TheFolds.{fold-roll-TermTree}
-use Rattle.kh_instr.specs.Operands.{holds_unsupported, unsupported_step, some_hold}
+use Rattle.kh_instr.specs.Operands.{holds_unsupported, unsupported_step, some_hold, literal_of}
 
 joined : {A B C : Type 0} (f : A → B) (g : B → C) (xs : List A) → map g (map f xs) ≡ map (λ x. g (f x)) xs
 joined f g [] = refl
@@ -54,6 +56,7 @@ some_end f xs i h = ap (λ ys. some_hold (map f ys)) (drop_all i xs h)
 
 pub ruleset literals = (holds-Int, holds-Atom, holds-Bin, holds-Nil, holds-List, holds-Tuple, holds-Map, holds-Closure, some_from, some_end)
 
--- a term is the one of its tree
-pub whole_of : (x : Term) (t : TermTree) → x.node ≡ t → whole t ≡ x
-whole_of x t e = ?
+-- a literal is the term of its tree
+pub literal_is : (x : Term) (t : TermTree) → holds_unsupported t ≡ false → x.node ≡ t → Some (source.Literal x) ≡ literal_of t
+literal_is x t h e =
+    let read : literal_of t ≡ Some (source.Literal x) = λ i. if h i then None else Some (source.Literal (whole_is x t e i)) in sym read

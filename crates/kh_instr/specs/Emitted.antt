@@ -7,14 +7,14 @@ use Rattle.kh_term.specs.declared.tree.TermTree.{TermTree}
 use Rattle.kh_term.specs.declared.tree.TermTree.TheOpen.{TermTree-F}
 use Rattle.kh_term.specs.declared.tree.TermTree.TheOpen as layer
 use Rattle.kh_term.specs.declared.tree.TermTree.TheFolds.{fold-TermTree}
-use Rattle.kh_term.specs.Size.{size_of, depth_of}
+use Rattle.kh_term.specs.Limits.{is_small}
 use Rattle.kh_instr.specs.declared.instr.Instr.{Instr}
 use Rattle.kh_instr.specs.declared.instr.Instr.TheVariants as instr
 use Rattle.kh_instr.specs.declared.module.Function.{Function}
 use Rattle.kh_instr.specs.declared.module.Standalone.{Standalone}
 use Rattle.kh_instr.specs.Syntax.{is_library}
 use Rattle.kh_instr.specs.Tables.{builtin_named, erlang, is_same_function}
-use Rattle.kh_instr.specs.Written.{are_distinct, has_label, all_label_numbers, leads_right, most_size, most_depth, is_small, all_literals}
+use Rattle.kh_instr.specs.Written.{are_distinct, has_label, all_label_numbers, leads_right, all_literals}
 
 -- The functions of the closures in a term, at any depth: in elements and tails, in the keys and values of maps, and in
 -- the captured values of closures.
@@ -108,14 +108,10 @@ most_functions = 512
 abbrev pub most_instructions : ℕ
 most_instructions = 65536
 
--- whether a captured value has at most the size and the depth of a literal
-abbrev pub is_small_tree : TermTree → Bool
-is_small_tree t = nat_le (size_of t) most_size && nat_le (depth_of t) most_depth
-
 -- The limits of extraction: at most 512 functions and 65,536 instructions; and those of what it is given: each literal
 -- and each captured value has a size of at most 1,048,576 and a depth of at most 200.
 pub record IsWithinLimits (m : Standalone) : Type 0 where
   pub functions : length m.functions ≤ most_functions
   pub instructions : instructions_in m.functions ≤ most_instructions
-  pub literals : IsTrue (list_all is_small (all_literals m.functions))
-  pub env : IsTrue (list_all is_small_tree m.env.nodes)
+  pub literals : IsTrue (list_all (λ t. is_small t.node) (all_literals m.functions))
+  pub env : IsTrue (list_all is_small m.env.nodes)

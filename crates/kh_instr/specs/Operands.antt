@@ -76,13 +76,25 @@ positive (suc n) = Some (suc n)
 abbrev pub own_number_of : TermTree → Option ℕ
 own_number_of t = option_and_then positive (count_of t)
 
+-- whether an atom is this word
+abbrev pub is_word : List ℕ → Option (List ℕ) → Bool
+is_word word None = false
+is_word word (Some text) = bytes_eq text word
+
+abbrev pub behind_word : List ℕ → Option (List ℕ) → TermTree → Option TermTree
+behind_word word text part = if is_word word text then Some part else None
+
 -- what stands behind this word, in a tuple of the two
 abbrev pub behind : List ℕ → List TermTree → Option TermTree
-behind word (first ∷ part ∷ []) = option_and_then (λ text. if bytes_eq text word then Some part else None) (atom_of first)
+behind word (first ∷ part ∷ []) = behind_word word (atom_of first) part
 behind word parts = None
 
+abbrev pub tagged_in : List ℕ → Option (List TermTree) → Option TermTree
+tagged_in word None = None
+tagged_in word (Some parts) = behind word parts
+
 abbrev pub tagged : List ℕ → TermTree → Option TermTree
-tagged word t = option_and_then (behind word) (parts_of t)
+tagged word t = tagged_in word (parts_of t)
 
 -- ---- operands
 
@@ -142,21 +154,34 @@ literal_of t = if holds_unsupported t then None else Some (source.Literal (whole
 abbrev pub int_of : TermTree → Option ℤ
 int_of t = int_in (out-TermTree t)
 
+abbrev pub literal_or : List ℕ → TermTree → Option Source
+literal_or word t =
+    if bytes_eq word (codes "literal") then literal_of t else option_map (λ r. source.Reg r) (reg_named word t)
+
+abbrev pub integer_or : List ℕ → TermTree → Option Source
+integer_or word t =
+    if bytes_eq word (codes "integer") then option_map (λ n. source.Integer n) (int_of t) else literal_or word t
+
 -- `{atom,A}`, `{integer,I}`, `{literal,T}`, or a register
 abbrev pub source_named : List ℕ → TermTree → Option Source
 source_named word t =
-    if bytes_eq word (codes "atom") then option_map (λ a. source.Atom a) (atom_of t)
-    else if bytes_eq word (codes "integer") then option_map (λ n. source.Integer n) (int_of t)
-    else if bytes_eq word (codes "literal") then literal_of t
-    else option_map (λ r. source.Reg r) (reg_named word t)
+    if bytes_eq word (codes "atom") then option_map (λ a. source.Atom a) (atom_of t) else integer_or word t
 
 -- a register with the type of its value, which isn't kept: `{tr,R,_}`
 abbrev pub typed_reg : List ℕ → TermTree → Option Source
 typed_reg word t = if bytes_eq word (codes "tr") then option_map (λ r. source.Reg r) (reg_of t) else None
 
+abbrev pub source_of_two : Option (List ℕ) → TermTree → Option Source
+source_of_two None t = None
+source_of_two (Some word) t = source_named word t
+
+abbrev pub source_of_three : Option (List ℕ) → TermTree → Option Source
+source_of_three None t = None
+source_of_three (Some word) t = typed_reg word t
+
 abbrev pub source_from : List TermTree → Option Source
-source_from (first ∷ part ∷ []) = option_and_then (λ word. source_named word part) (atom_of first)
-source_from (first ∷ part ∷ type ∷ []) = option_and_then (λ word. typed_reg word part) (atom_of first)
+source_from (first ∷ part ∷ []) = source_of_two (atom_of first) part
+source_from (first ∷ part ∷ type ∷ []) = source_of_three (atom_of first) part
 source_from parts = None
 
 abbrev pub source_in : TermTree-F TermTree → Option Source
@@ -191,14 +216,13 @@ list_by f t = option_and_then (each f) (items_of t)
 abbrev pub listed_by : {A : Type 0} → (TermTree → Option A) → TermTree → Option (List A)
 listed_by f t = option_and_then (list_by f) (tagged (codes "list") t)
 
+-- `[A,B,..]`
+abbrev pub list_by_two : {A B : Type 0} → (TermTree → Option A) → (TermTree → Option B) → TermTree → Option (List (A × B))
+list_by_two f g t = option_and_then (each_two f g) (items_of t)
+
 -- `{list,[A,B,..]}`
 abbrev pub listed_by_two : {A B : Type 0} → (TermTree → Option A) → (TermTree → Option B) → TermTree → Option (List (A × B))
-listed_by_two f g t = option_and_then (λ items. option_and_then (each_two f g) (items_of items)) (tagged (codes "list") t)
-
--- whether an atom is this word
-abbrev pub is_word : List ℕ → Option (List ℕ) → Bool
-is_word word None = false
-is_word word (Some text) = bytes_eq text word
+listed_by_two f g t = option_and_then (list_by_two f g) (tagged (codes "list") t)
 
 abbrev pub function_from_parts : List TermTree → Option Origin
 function_from_parts (first ∷ m ∷ n ∷ a ∷ []) =

@@ -14,10 +14,12 @@ use Rattle.kh_instr.specs.declared.test.Comparison.{Comparison}
 use Rattle.kh_instr.specs.declared.test.TypeTest.{TypeTest}
 use Rattle.kh_instr.specs.declared.test.Test.{Test}
 use Rattle.kh_instr.specs.declared.test.Test.TheVariants as test
+use Rattle.kh_instr.specs.declared.words.TestName.{TestName}
+use Rattle.kh_instr.specs.declared.words.TestName.TheVariants as test_name
 use Rattle.kh_instr.specs.declared.words.Word.{Word}
 use Rattle.kh_instr.specs.declared.words.Word.TheVariants as word
-use Rattle.kh_instr.specs.Operands.{atom_of, any_of, arity_of, count_of, own_number_of, label_of, slot_of, quoted_of, reg_of, source_of, function_of, items_of, each, list_by, listed_by, listed_by_two, one, two, three, four, five}
-use Rattle.kh_instr.specs.Words.{word_named, type_test_named, comparison_named}
+use Rattle.kh_instr.specs.Operands.{atom_of, any_of, arity_of, count_of, own_number_of, label_of, slot_of, quoted_of, reg_of, source_of, function_of, items_of, each, list_by, listed_by, listed_by_two, one, both, two, three, four, five}
+use Rattle.kh_instr.specs.Words.{word_named, test_named}
 
 -- the function of an external call that says how many arguments it has
 abbrev pub called : ℕ → Origin → Option Origin
@@ -46,40 +48,48 @@ abbrev pub fields_of : List TermTree → Option Test
 fields_of [] = None
 fields_of (t ∷ keys) = option_and_then (λ s. option_map (λ ks. test.HasMapFields s ks) (each source_of keys)) (source_of t)
 
-abbrev pub other_test : List ℕ → List TermTree → Option Test
-other_test name ts =
-    if bytes_eq name (codes "is_function2") then option_map (λ p. test.Function2 p.0 p.1) (two source_of source_of ts)
-    else if bytes_eq name (codes "test_arity") then option_map (λ p. test.Arity p.0 p.1) (two source_of count_of ts)
-    else if bytes_eq name (codes "is_tagged_tuple") then option_map (λ p. test.TaggedTuple p.0 p.1 p.2) (three source_of count_of source_of ts)
-    else if bytes_eq name (codes "has_map_fields") then fields_of ts else None
+abbrev pub function2_of : List TermTree → Option Test
+function2_of ts = option_map (λ p. test.Function2 p.0 p.1) (two source_of source_of ts)
 
-abbrev pub type_test_or : Option TypeTest → List TermTree → Option Test → Option Test
-type_test_or (Some which) ts other = option_map (λ s. test.Type which s) (one source_of ts)
-type_test_or None ts other = other
+abbrev pub test_arity_of : List TermTree → Option Test
+test_arity_of ts = option_map (λ p. test.Arity p.0 p.1) (two source_of count_of ts)
 
-abbrev pub comparison_or : Option Comparison → List TermTree → Option Test → Option Test
-comparison_or (Some which) ts other = option_map (λ p. test.Compare which p.0 p.1) (two source_of source_of ts)
-comparison_or None ts other = other
+abbrev pub tagged_tuple_of : List TermTree → Option Test
+tagged_tuple_of ts = option_map (λ p. test.TaggedTuple p.0 p.1 p.2) (three source_of count_of source_of ts)
 
--- a test by its name, of these operands
-abbrev pub test_of : List ℕ → List TermTree → Option Test
-test_of name ts = type_test_or (type_test_named name) ts (comparison_or (comparison_named name) ts (other_test name ts))
+abbrev pub type_test_of : TypeTest → List TermTree → Option Test
+type_test_of which ts = option_map (λ s. test.Type which s) (one source_of ts)
+
+abbrev pub comparison_of : Comparison → List TermTree → Option Test
+comparison_of which ts = option_map (λ p. test.Compare which p.0 p.1) (two source_of source_of ts)
+
+-- the row of a test, by its name
+abbrev pub test_of : TestName → List TermTree → Option Test
+test_of (test_name.Type which) ts = type_test_of which ts
+test_of (test_name.Compare which) ts = comparison_of which ts
+test_of test_name.Function2 ts = function2_of ts
+test_of test_name.Arity ts = test_arity_of ts
+test_of test_name.TaggedTuple ts = tagged_tuple_of ts
+test_of test_name.HasMapFields ts = fields_of ts
 
 -- the operands in a list: `{test,Op,{f,L},[..]}`
-abbrev pub listed_test : List ℕ → TermTree → Option Test
-listed_test name t = option_and_then (test_of name) (items_of t)
+abbrev pub listed_test : TestName → ℕ → TermTree → Option Instr
+listed_test name label t = option_map (λ what. instr.Test label what) (option_and_then (test_of name) (items_of t))
 
--- `{test,has_map_fields,{f,L},S,{list,[..]}}`
-abbrev pub fields_test : List ℕ → TermTree → TermTree → Option Test
-fields_test name t keys =
-    if bytes_eq name (codes "has_map_fields") then
-    option_and_then (λ s. option_map (λ ks. test.HasMapFields s ks) (listed_by source_of keys)) (source_of t) else None
+-- keys behind the map: `{test,has_map_fields,{f,L},S,{list,[..]}}`
+abbrev pub fields_test : TestName → ℕ → TermTree → TermTree → Option Instr
+fields_test test_name.HasMapFields label t keys =
+    option_map (λ p. instr.Test label (test.HasMapFields p.0 p.1)) (both source_of (listed_by source_of) t keys)
+fields_test name label t keys = None
+
+-- the name of a test, and the label to which it jumps
+abbrev pub name_and_label : TermTree → TermTree → Option (TestName × ℕ)
+name_and_label name label =
+    option_and_then (λ n. option_map (λ l. (n, l)) (label_of label)) (option_and_then test_named (atom_of name))
 
 abbrev pub test_row : List TermTree → Option Instr
-test_row (name ∷ label ∷ t ∷ []) =
-    option_and_then (λ n. option_and_then (λ l. option_map (λ what. instr.Test l what) (listed_test n t)) (label_of label)) (atom_of name)
-test_row (name ∷ label ∷ t ∷ keys ∷ []) =
-    option_and_then (λ n. option_and_then (λ l. option_map (λ what. instr.Test l what) (fields_test n t keys)) (label_of label)) (atom_of name)
+test_row (name ∷ label ∷ t ∷ []) = option_and_then (λ p. listed_test p.0 p.1 t) (name_and_label name label)
+test_row (name ∷ label ∷ t ∷ keys ∷ []) = option_and_then (λ p. fields_test p.0 p.1 t keys) (name_and_label name label)
 test_row ts = None
 
 -- ---- the rows

@@ -1,10 +1,10 @@
 -- The words of the table of instructions.
 use Rattle.std.specs.Prelude.{ℕ, codes, List, [], ◌∷◌, find, Option}
 use Rattle.std.specs.Str.{bytes_eq}
-use Rattle.kh_instr.specs.declared.test.Comparison.{Comparison}
 use Rattle.kh_instr.specs.declared.test.Comparison.TheVariants as comparison
-use Rattle.kh_instr.specs.declared.test.TypeTest.{TypeTest}
 use Rattle.kh_instr.specs.declared.test.TypeTest.TheVariants as type_test
+use Rattle.kh_instr.specs.declared.words.TestName.{TestName}
+use Rattle.kh_instr.specs.declared.words.TestName.TheVariants as test_name
 use Rattle.kh_instr.specs.declared.words.Word.{Word}
 use Rattle.kh_instr.specs.declared.words.Word.TheVariants as word
 
@@ -73,50 +73,51 @@ all_words =
 abbrev pub word_named : List ℕ → Option Word
 word_named text = find (λ k. bytes_eq (word_text k) text) all_words
 
--- how a test of a type is spelled
-abbrev pub type_test_text : TypeTest → List ℕ
-type_test_text type_test.Integer = codes "is_integer"
-type_test_text type_test.Number = codes "is_number"
-type_test_text type_test.Atom = codes "is_atom"
-type_test_text type_test.Boolean = codes "is_boolean"
-type_test_text type_test.Nil = codes "is_nil"
-type_test_text type_test.List = codes "is_list"
-type_test_text type_test.NonemptyList = codes "is_nonempty_list"
-type_test_text type_test.Binary = codes "is_binary"
-type_test_text type_test.Bitstr = codes "is_bitstr"
-type_test_text type_test.Tuple = codes "is_tuple"
-type_test_text type_test.Map = codes "is_map"
-type_test_text type_test.Function = codes "is_function"
-type_test_text type_test.Float = codes "is_float"
-type_test_text type_test.Pid = codes "is_pid"
-type_test_text type_test.Port = codes "is_port"
-type_test_text type_test.Reference = codes "is_reference"
+-- how the name of a test is spelled
+abbrev pub test_text : TestName → List ℕ
+test_text (test_name.Type type_test.Integer) = codes "is_integer"
+test_text (test_name.Type type_test.Number) = codes "is_number"
+test_text (test_name.Type type_test.Atom) = codes "is_atom"
+test_text (test_name.Type type_test.Boolean) = codes "is_boolean"
+test_text (test_name.Type type_test.Nil) = codes "is_nil"
+test_text (test_name.Type type_test.List) = codes "is_list"
+test_text (test_name.Type type_test.NonemptyList) = codes "is_nonempty_list"
+test_text (test_name.Type type_test.Binary) = codes "is_binary"
+test_text (test_name.Type type_test.Bitstr) = codes "is_bitstr"
+test_text (test_name.Type type_test.Tuple) = codes "is_tuple"
+test_text (test_name.Type type_test.Map) = codes "is_map"
+test_text (test_name.Type type_test.Function) = codes "is_function"
+test_text (test_name.Type type_test.Float) = codes "is_float"
+test_text (test_name.Type type_test.Pid) = codes "is_pid"
+test_text (test_name.Type type_test.Port) = codes "is_port"
+test_text (test_name.Type type_test.Reference) = codes "is_reference"
+test_text (test_name.Compare comparison.Lt) = codes "is_lt"
+test_text (test_name.Compare comparison.Ge) = codes "is_ge"
+test_text (test_name.Compare comparison.Eq) = codes "is_eq"
+test_text (test_name.Compare comparison.Ne) = codes "is_ne"
+test_text (test_name.Compare comparison.EqExact) = codes "is_eq_exact"
+test_text (test_name.Compare comparison.NeExact) = codes "is_ne_exact"
+test_text test_name.Function2 = codes "is_function2"
+test_text test_name.Arity = codes "test_arity"
+test_text test_name.TaggedTuple = codes "is_tagged_tuple"
+test_text test_name.HasMapFields = codes "has_map_fields"
 
-abbrev pub all_type_tests : List TypeTest
-all_type_tests =
-    type_test.Integer ∷ type_test.Number ∷ type_test.Atom ∷ type_test.Boolean ∷
-    type_test.Nil ∷ type_test.List ∷ type_test.NonemptyList ∷ type_test.Binary ∷
-    type_test.Bitstr ∷ type_test.Tuple ∷ type_test.Map ∷ type_test.Function ∷
-    type_test.Float ∷ type_test.Pid ∷ type_test.Port ∷ type_test.Reference ∷ []
+abbrev pub all_tests : List TestName
+all_tests =
+    (test_name.Type type_test.Integer) ∷ (test_name.Type type_test.Number) ∷
+    (test_name.Type type_test.Atom) ∷ (test_name.Type type_test.Boolean) ∷
+    (test_name.Type type_test.Nil) ∷ (test_name.Type type_test.List) ∷
+    (test_name.Type type_test.NonemptyList) ∷ (test_name.Type type_test.Binary) ∷
+    (test_name.Type type_test.Bitstr) ∷ (test_name.Type type_test.Tuple) ∷
+    (test_name.Type type_test.Map) ∷ (test_name.Type type_test.Function) ∷
+    (test_name.Type type_test.Float) ∷ (test_name.Type type_test.Pid) ∷
+    (test_name.Type type_test.Port) ∷ (test_name.Type type_test.Reference) ∷
+    (test_name.Compare comparison.Lt) ∷ (test_name.Compare comparison.Ge) ∷
+    (test_name.Compare comparison.Eq) ∷ (test_name.Compare comparison.Ne) ∷
+    (test_name.Compare comparison.EqExact) ∷ (test_name.Compare comparison.NeExact) ∷
+    test_name.Function2 ∷ test_name.Arity ∷ test_name.TaggedTuple ∷
+    test_name.HasMapFields ∷ []
 
 -- what is spelled so, if there is one
-abbrev pub type_test_named : List ℕ → Option TypeTest
-type_test_named text = find (λ k. bytes_eq (type_test_text k) text) all_type_tests
-
--- how a comparison is spelled
-abbrev pub comparison_text : Comparison → List ℕ
-comparison_text comparison.Lt = codes "is_lt"
-comparison_text comparison.Ge = codes "is_ge"
-comparison_text comparison.Eq = codes "is_eq"
-comparison_text comparison.Ne = codes "is_ne"
-comparison_text comparison.EqExact = codes "is_eq_exact"
-comparison_text comparison.NeExact = codes "is_ne_exact"
-
-abbrev pub all_comparisons : List Comparison
-all_comparisons =
-    comparison.Lt ∷ comparison.Ge ∷ comparison.Eq ∷ comparison.Ne ∷ comparison.EqExact ∷
-    comparison.NeExact ∷ []
-
--- what is spelled so, if there is one
-abbrev pub comparison_named : List ℕ → Option Comparison
-comparison_named text = find (λ k. bytes_eq (comparison_text k) text) all_comparisons
+abbrev pub test_named : List ℕ → Option TestName
+test_named text = find (λ k. bytes_eq (test_text k) text) all_tests

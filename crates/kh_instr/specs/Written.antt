@@ -3,7 +3,7 @@ use Rattle.std.specs.Prelude.{◌≡◌, ◌≤◌, ℕ, Bool, true, false, ◌&
 use Rattle.std.specs.List.{flat_map, list_all, list_any}
 use Rattle.std.specs.Str.{bytes_eq}
 use Rattle.kh_term.specs.declared.term.Term.{Term}
-use Rattle.kh_term.specs.Size.{size_of, depth_of}
+use Rattle.kh_term.specs.Limits.{is_small}
 use Rattle.kh_instr.specs.declared.instr.Instr.{Instr}
 use Rattle.kh_instr.specs.declared.instr.Instr.TheVariants as instr
 use Rattle.kh_instr.specs.declared.module.Function.{Function}
@@ -71,20 +71,10 @@ pub record IsWritten (m : Module) : Type 0 where
   pub leads : IsTrue (list_all (leads_right m.functions) m.functions)
   pub origins : IsTrue (list_all (is_its_own m.name) m.functions)
 
--- the greatest size and the greatest depth of a literal and of a captured value
-abbrev pub most_size : ℕ
-most_size = 1048576
-
-abbrev pub most_depth : ℕ
-most_depth = 200
-
-abbrev pub is_small : Term → Bool
-is_small t = nat_le (size_of t.node) most_size && nat_le (depth_of t.node) most_depth
-
 -- the literals of some functions, as they stand
 abbrev pub all_literals : List Function → List Term
 all_literals = flat_map (λ f. flat_map literals f.code)
 
--- each literal of a module has at most that size and that depth
+-- each literal of a module has a size of at most 1,048,576 and a depth of at most 200
 abbrev pub HasSmallLiterals : Module → Type 0
-HasSmallLiterals m = IsTrue (list_all is_small (all_literals m.functions))
+HasSmallLiterals m = IsTrue (list_all (λ t. is_small t.node) (all_literals m.functions))

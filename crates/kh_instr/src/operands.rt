@@ -5,7 +5,7 @@ ghost use Rattle.kh_term.specs.declared.tree.TermTree.{out-TermTree};
 ghost use Rattle.kh_term.specs.Size.{is_nil};
 ghost use Rattle.std.specs.Option.{option_copied};
 ghost use Rattle.kh_term.specs.WellFormed.{IsTerm, AreTerms};
-ghost use Rattle.kh_instr.specs.Operands.{int_of, number_below, count_of, arity_of, own_number_of, place_of, tagged, behind, any_of, label_of, slot_of, atom_of, quoted_of, reg_named, reg_from, reg_of, some_hold, holds_unsupported, literal_of, source_named, typed_reg, source_from, source_of, parts_of, items_of, is_word, list_by, listed_by, listed_by_two, function_from_parts, function_of};
+ghost use Rattle.kh_instr.specs.Operands.{int_of, number_below, count_of, arity_of, own_number_of, place_of, tagged, behind, any_of, label_of, slot_of, atom_of, quoted_of, reg_named, reg_from, reg_of, some_hold, holds_unsupported, literal_of, literal_or, integer_or, source_named, source_of_two, source_of_three, typed_reg, source_from, source_of, parts_of, items_of, is_word, list_by, listed_by, list_by_two, listed_by_two, function_from_parts, function_of};
 
 use crate::operand::{Reg, Source};
 use crate::shapes::{Shape, each, each_two};
@@ -32,7 +32,7 @@ fn int_of(tree: &TermTree) -> Option<i128>
 
 // An atom.
 #[tactic(auto, using(crate::proofs::Trees::trees))]
-fn atom_of(tree: &TermTree) -> Option<&Atom>
+pub fn atom_of(tree: &TermTree) -> Option<&Atom>
     ensures { option_copied result ≡ atom_of tree.now }
 {
     match tree {
@@ -121,16 +121,12 @@ fn tagged<'a>(word: &[u8], tree: &'a TermTree) -> Option<&'a TermTree>
     }
 }
 
-#[tactic(auto, using(crate::proofs::Trees::trees))]
 fn behind<'a>(word: &[u8], parts: &'a [TermTree]) -> Option<&'a TermTree>
     ensures { option_copied result ≡ behind word.now parts.now }
 {
     match parts {
         [first, part] => {
-            let Some(text) = atom_of(first) else {
-                return None;
-            };
-            if text.as_slice() == word {
+            if is_word(word, atom_of(first)) {
                 Some(part)
             } else {
                 None
@@ -140,8 +136,18 @@ fn behind<'a>(word: &[u8], parts: &'a [TermTree]) -> Option<&'a TermTree>
     }
 }
 
+// Whether an atom is this word.
+fn is_word(word: &[u8], atom: Option<&Atom>) -> bool
+    ensures { result ≡ is_word word.now (option_copied atom.entry) }
+{
+    match atom {
+        Some(text) => text.as_slice() == word,
+        None => false,
+    }
+}
+
 // What a label of this number is.
-fn label_of(tree: &TermTree) -> Option<u32>
+pub fn label_of(tree: &TermTree) -> Option<u32>
     ensures { result ≡ label_of tree.now }
 {
     count_of(tagged(b"f", tree)?)
@@ -209,7 +215,7 @@ fn reg_of(tree: &TermTree) -> Option<Reg>
 
 // The elements of a list that nil ends.
 #[tactic(auto, using(crate::proofs::Trees::trees))]
-fn items_of(tree: &TermTree) -> Option<&[TermTree]>
+pub fn items_of(tree: &TermTree) -> Option<&[TermTree]>
     ensures { option_copied result ≡ items_of tree.now }
 {
     match tree {
@@ -302,7 +308,6 @@ fn either(a: bool, b: bool) -> bool
 }
 
 // A literal, where the atom `'$unsupported'` is no part of it.
-#[tactic(auto, using(crate::proofs::Literals::whole_of))]
 fn literal_of(alloc: Global, tree: &TermTree) -> Result<Option<Source>, NoMemory>
     requires { IsTerm tree.now }
     ensures { IfOk result (λ found. found ≡ literal_of tree.now) }
@@ -314,6 +319,28 @@ fn literal_of(alloc: Global, tree: &TermTree) -> Result<Option<Source>, NoMemory
     Ok(Some(Source::Literal(term)))
 }
 
+fn literal_or(alloc: Global, word: &[u8], tree: &TermTree) -> Result<Option<Source>, NoMemory>
+    requires { IsTerm tree.now }
+    ensures { IfOk result (λ found. found ≡ literal_or word.now tree.now) }
+{
+    if word == b"literal".as_slice() {
+        literal_of(alloc, tree)
+    } else {
+        Ok(reg_source(reg_named(word, tree)))
+    }
+}
+
+fn integer_or(alloc: Global, word: &[u8], tree: &TermTree) -> Result<Option<Source>, NoMemory>
+    requires { IsTerm tree.now }
+    ensures { IfOk result (λ found. found ≡ integer_or word.now tree.now) }
+{
+    if word == b"integer".as_slice() {
+        Ok(integer_source(tree))
+    } else {
+        literal_or(alloc, word, tree)
+    }
+}
+
 fn source_named(
     alloc: Global,
     word: &[u8],
@@ -322,11 +349,10 @@ fn source_named(
     requires { IsTerm tree.now }
     ensures { IfOk result (λ found. found ≡ source_named word.now tree.now) }
 {
-    match word {
-        b"atom" => atom_source(alloc, tree),
-        b"integer" => Ok(integer_source(tree)),
-        b"literal" => literal_of(alloc, tree),
-        _ => Ok(reg_source(reg_named(word, tree))),
+    if word == b"atom".as_slice() {
+        atom_source(alloc, tree)
+    } else {
+        integer_or(alloc, word, tree)
     }
 }
 
@@ -361,19 +387,36 @@ fn typed_reg(word: &[u8], tree: &TermTree) -> Option<Source>
     }
 }
 
+fn source_of_two(
+    alloc: Global,
+    word: Option<&Atom>,
+    tree: &TermTree,
+) -> Result<Option<Source>, NoMemory>
+    requires { IsTerm tree.now }
+    ensures { IfOk result (λ found. found ≡ source_of_two (option_copied word.entry) tree.now) }
+{
+    match word {
+        Some(word) => source_named(alloc, word.as_slice(), tree),
+        None => Ok(None),
+    }
+}
+
+fn source_of_three(word: Option<&Atom>, tree: &TermTree) -> Option<Source>
+    ensures { result ≡ source_of_three (option_copied word.entry) tree.now }
+{
+    match word {
+        Some(word) => typed_reg(word.as_slice(), tree),
+        None => None,
+    }
+}
+
 fn source_from(alloc: Global, parts: &[TermTree]) -> Result<Option<Source>, NoMemory>
     requires { AreTerms parts.now }
     ensures { IfOk result (λ found. found ≡ source_from parts.now) }
 {
     match parts {
-        [first, part] => match atom_of(first) {
-            Some(word) => source_named(alloc, word.as_slice(), part),
-            None => Ok(None),
-        },
-        [first, part, _] => match atom_of(first) {
-            Some(word) => Ok(typed_reg(word.as_slice(), part)),
-            None => Ok(None),
-        },
+        [first, part] => source_of_two(alloc, atom_of(first), part),
+        [first, part, _] => Ok(source_of_three(atom_of(first), part)),
         _ => Ok(None),
     }
 }
@@ -404,7 +447,7 @@ fn function_from_parts(alloc: Global, parts: &[TermTree]) -> Result<Option<Origi
 {
     match parts {
         [first, module, name, arity] => {
-            if !is_extfunc(first) {
+            if !is_word(b"extfunc", atom_of(first)) {
                 return Ok(None);
             }
             let Some(module) = atom_of(module) else {
@@ -425,16 +468,6 @@ fn function_from_parts(alloc: Global, parts: &[TermTree]) -> Result<Option<Origi
             }))
         }
         _ => Ok(None),
-    }
-}
-
-// Whether a tree is the atom `extfunc`.
-fn is_extfunc(tree: &TermTree) -> bool
-    ensures { result ≡ is_word (codes "extfunc") (atom_of tree.now) }
-{
-    match atom_of(tree) {
-        Some(text) => text.as_slice() == b"extfunc".as_slice(),
-        None => false,
     }
 }
 
@@ -635,6 +668,29 @@ impl<A: Shape> Shape for Listed<A> {
     }
 }
 
+/// `[A,B,..]`.
+pub struct PairsOf<A: Shape, B: Shape> {
+    first: A,
+    second: B,
+}
+
+impl<A: Shape, B: Shape> Shape for PairsOf<A, B> {
+    type Value = Items<(A::Value, B::Value)>;
+
+    ghost reads = { list_by_two A.reads B.reads };
+
+    #[tactic(auto, using(crate::proofs::Trees::items))]
+    fn read(
+        alloc: Global,
+        tree: &TermTree,
+    ) -> Result<Option<Items<(A::Value, B::Value)>>, NoMemory> {
+        match items_of(tree) {
+            Some(items) => each_two::<A, B>(alloc, items),
+            None => Ok(None),
+        }
+    }
+}
+
 /// `{list,[A,B,..]}`.
 pub struct ListedTwo<A: Shape, B: Shape> {
     first: A,
@@ -652,10 +708,7 @@ impl<A: Shape, B: Shape> Shape for ListedTwo<A, B> {
         tree: &TermTree,
     ) -> Result<Option<Items<(A::Value, B::Value)>>, NoMemory> {
         match tagged(b"list", tree) {
-            Some(list) => match items_of(list) {
-                Some(items) => each_two::<A, B>(alloc, items),
-                None => Ok(None),
-            },
+            Some(list) => PairsOf::<A, B>::read(alloc, list),
             None => Ok(None),
         }
     }

@@ -32,7 +32,7 @@ pub fn one<A: Shape>(alloc: Global, parts: &[TermTree]) -> Result<Option<A::Valu
 }
 
 /// Two operands, where both are there.
-fn both<A: Shape, B: Shape>(
+pub fn both<A: Shape, B: Shape>(
     alloc: Global,
     first: &TermTree,
     second: &TermTree,

@@ -1,7 +1,8 @@
 //! The words of the table.
 ghost use Rattle.std.specs.Prelude.{◌≡◌, ℕ, List, find};
 ghost use Rattle.std.specs.Str.{bytes_eq};
-ghost use Rattle.kh_instr.specs.Words.{word_text, type_test_text, comparison_text, word_named, type_test_named, comparison_named};
+ghost use Rattle.kh_instr.specs.Words.{word_text, test_text, word_named, test_named};
+ghost use Rattle.kh_instr.specs.declared.words.TestName.TheVariants as test_name;
 
 use crate::test::{Comparison, TypeTest};
 
@@ -190,27 +191,48 @@ impl Word {
     }
 }
 
-const TYPE_TESTS: [TypeTest; 16] = [
-    TypeTest::Integer,
-    TypeTest::Number,
-    TypeTest::Atom,
-    TypeTest::Boolean,
-    TypeTest::Nil,
-    TypeTest::List,
-    TypeTest::NonemptyList,
-    TypeTest::Binary,
-    TypeTest::Bitstr,
-    TypeTest::Tuple,
-    TypeTest::Map,
-    TypeTest::Function,
-    TypeTest::Float,
-    TypeTest::Pid,
-    TypeTest::Port,
-    TypeTest::Reference,
+/// The names of the tests.
+#[derive(Clone, Copy, Debug, PartialEq, Eq)]
+pub enum TestName {
+    Type(TypeTest),
+    Compare(Comparison),
+    Function2,
+    Arity,
+    TaggedTuple,
+    HasMapFields,
+}
+
+const TESTS: [TestName; 26] = [
+    TestName::Type(TypeTest::Integer),
+    TestName::Type(TypeTest::Number),
+    TestName::Type(TypeTest::Atom),
+    TestName::Type(TypeTest::Boolean),
+    TestName::Type(TypeTest::Nil),
+    TestName::Type(TypeTest::List),
+    TestName::Type(TypeTest::NonemptyList),
+    TestName::Type(TypeTest::Binary),
+    TestName::Type(TypeTest::Bitstr),
+    TestName::Type(TypeTest::Tuple),
+    TestName::Type(TypeTest::Map),
+    TestName::Type(TypeTest::Function),
+    TestName::Type(TypeTest::Float),
+    TestName::Type(TypeTest::Pid),
+    TestName::Type(TypeTest::Port),
+    TestName::Type(TypeTest::Reference),
+    TestName::Compare(Comparison::Lt),
+    TestName::Compare(Comparison::Ge),
+    TestName::Compare(Comparison::Eq),
+    TestName::Compare(Comparison::Ne),
+    TestName::Compare(Comparison::EqExact),
+    TestName::Compare(Comparison::NeExact),
+    TestName::Function2,
+    TestName::Arity,
+    TestName::TaggedTuple,
+    TestName::HasMapFields,
 ];
 
 impl Spelled for TypeTest {
-    ghost spelling = { type_test_text };
+    ghost spelling = { λ which. test_text (test_name.Type which) };
 
     fn text(self) -> &'static [u8] {
         match self {
@@ -234,26 +256,8 @@ impl Spelled for TypeTest {
     }
 }
 
-impl TypeTest {
-    /// What is spelled so, if there is one.
-    pub fn named(text: &[u8]) -> Option<TypeTest>
-        ensures { result ≡ type_test_named text.now }
-    {
-        named(&TYPE_TESTS, text)
-    }
-}
-
-const COMPARISONS: [Comparison; 6] = [
-    Comparison::Lt,
-    Comparison::Ge,
-    Comparison::Eq,
-    Comparison::Ne,
-    Comparison::EqExact,
-    Comparison::NeExact,
-];
-
 impl Spelled for Comparison {
-    ghost spelling = { comparison_text };
+    ghost spelling = { λ which. test_text (test_name.Compare which) };
 
     fn text(self) -> &'static [u8] {
         match self {
@@ -267,11 +271,26 @@ impl Spelled for Comparison {
     }
 }
 
-impl Comparison {
-    /// What is spelled so, if there is one.
-    pub fn named(text: &[u8]) -> Option<Comparison>
-        ensures { result ≡ comparison_named text.now }
+impl Spelled for TestName {
+    ghost spelling = { test_text };
+
+    fn text(self) -> &'static [u8] {
+        match self {
+            TestName::Type(which) => which.text(),
+            TestName::Compare(which) => which.text(),
+            TestName::Function2 => b"is_function2",
+            TestName::Arity => b"test_arity",
+            TestName::TaggedTuple => b"is_tagged_tuple",
+            TestName::HasMapFields => b"has_map_fields",
+        }
+    }
+}
+
+impl TestName {
+    /// The test of this name, if there is one.
+    pub fn named(text: &[u8]) -> Option<TestName>
+        ensures { result ≡ test_named text.now }
     {
-        named(&COMPARISONS, text)
+        named(&TESTS, text)
     }
 }

@@ -9,5 +9,5 @@ returns-then-at-parts g c = two_odd _ _ _ _ _ c.if-at-parts.true c.loop-at.invar
 pub loop-at-preserved : goal.loop-at-preserved
 loop-at-preserved g c =
     let inside : c.loop-at.at + 1 < length c.args.parts.now = omega arith in
-    let read : both g.A.Shape.reads g.B.Shape.reads c.index-parts-at.result.now c.index-parts-at-in-loop-at.result.now ≡ Some c.in-Some.values = search rules in
+    let read : both g.A.Shape.reads g.B.Shape.reads c.index-parts-at.result c.index-parts-at-in-loop-at.result ≡ Some c.in-Some.values = search rules in
     rw c.in_ok-push-in-Some.ensures.ok (two_next _ _ _ _ _ _ _ _ inside c.index-parts-at.is c.index-parts-at-in-loop-at.is read c.loop-at.invariant)
