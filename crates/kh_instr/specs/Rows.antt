@@ -164,8 +164,11 @@ abbrev pub tuple_read : List TermTree → Option Instr
 tuple_read [] = None
 tuple_read (first ∷ ts) = option_and_then (λ text. row_from text ts) (atom_of first)
 
+abbrev pub alone_named : List ℕ → Option Instr
+alone_named text = option_and_then alone (word_named text)
+
 abbrev pub listed_in : TermTree-F TermTree → Option Instr
-listed_in (layer.Atom text) = option_and_then alone (word_named text)
+listed_in (layer.Atom text) = alone_named text
 listed_in (layer.Tuple parts) = tuple_read parts
 listed_in l = None
 
