@@ -3,7 +3,6 @@ pub mod Emitted
 pub mod Laws
 pub mod Operands
 pub mod Rows
-pub mod Spelling
 pub mod Syntax
 pub mod Tables
 pub mod Words

@@ -17,7 +17,6 @@ pub struct Functions {
 impl Model for Functions {
     ghost use Rattle.std.specs.Prelude.{List};
     ghost use Rattle.kh_instr.specs.declared.module.Function.{Function};
-
     ghost use Rattle.kh_instr.specs.contracts.module.Function as function;
     ghost use Rattle.std.specs.Coded.{coded_list};
 

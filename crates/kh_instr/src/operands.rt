@@ -341,11 +341,7 @@ fn integer_or(alloc: Global, word: &[u8], tree: &TermTree) -> Result<Option<Sour
     }
 }
 
-fn source_named(
-    alloc: Global,
-    word: &[u8],
-    tree: &TermTree,
-) -> Result<Option<Source>, NoMemory>
+fn source_named(alloc: Global, word: &[u8], tree: &TermTree) -> Result<Option<Source>, NoMemory>
     requires { IsTerm tree.now }
     ensures { IfOk result (λ found. found ≡ source_named word.now tree.now) }
 {

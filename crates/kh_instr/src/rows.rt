@@ -6,14 +6,15 @@ ghost use Rattle.kh_instr.specs.declared.words.Word.TheVariants as word;
 ghost use Rattle.kh_instr.specs.Rows.{row, few, is_raise, bif_made, fields_of, function2_of, test_arity_of, tagged_tuple_of, type_test_of, comparison_of, test_of, listed_test, fields_test, name_and_label, alone};
 
 use crate::instr::Instr;
-use crate::test::{Comparison, Test, TypeTest};
-use crate::words::{TestName, Word};
 use crate::operand::{Reg, Source};
 use crate::operands::{
     AnyShape, ArityShape, CountShape, FunctionShape, LabelShape, ListOf, Listed, ListedTwo,
-    NameShape, OwnNumberShape, QuotedShape, RegShape, SlotShape, SourceShape, atom_of, items_of, label_of,
+    NameShape, OwnNumberShape, QuotedShape, RegShape, SlotShape, SourceShape, atom_of, items_of,
+    label_of,
 };
 use crate::shapes::{Shape, both, each, five, four, one, three, two};
+use crate::test::{Comparison, Test, TypeTest};
+use crate::words::{TestName, Word};
 use kh_term::{Atom, NoMemory, Origin, TermTree};
 use sqlite_items::Items;
 use std::alloc::Global;
@@ -33,7 +34,11 @@ fn read_func_info(alloc: Global, parts: &[TermTree]) -> Result<Option<Instr>, No
     ensures { IfOk result (λ found. found ≡ row word.FuncInfo parts.now) }
 {
     match three::<QuotedShape, QuotedShape, ArityShape>(alloc, parts)? {
-        Some((module, name, arity)) => Ok(Some(Instr::FuncInfo(Origin { module, name, arity, }))),
+        Some((module, name, arity)) => Ok(Some(Instr::FuncInfo(Origin {
+            module,
+            name,
+            arity,
+        }))),
         None => Ok(None),
     }
 }
@@ -272,8 +277,17 @@ fn read_put_map_assoc(alloc: Global, parts: &[TermTree]) -> Result<Option<Instr>
     requires { AreTerms parts.now }
     ensures { IfOk result (λ found. found ≡ row word.PutMapAssoc parts.now) }
 {
-    match five::<LabelShape, SourceShape, RegShape, CountShape, ListedTwo<SourceShape, SourceShape>>(alloc, parts)? {
-        Some((label, map, target, live, puts)) => Ok(Some(Instr::PutMapAssoc(label, map, target, live, puts))),
+    match five::<
+        LabelShape,
+        SourceShape,
+        RegShape,
+        CountShape,
+        ListedTwo<SourceShape, SourceShape>,
+    >(alloc, parts)?
+    {
+        Some((label, map, target, live, puts)) => Ok(Some(Instr::PutMapAssoc(
+            label, map, target, live, puts,
+        ))),
         None => Ok(None),
     }
 }
@@ -282,8 +296,17 @@ fn read_put_map_exact(alloc: Global, parts: &[TermTree]) -> Result<Option<Instr>
     requires { AreTerms parts.now }
     ensures { IfOk result (λ found. found ≡ row word.PutMapExact parts.now) }
 {
-    match five::<LabelShape, SourceShape, RegShape, CountShape, ListedTwo<SourceShape, SourceShape>>(alloc, parts)? {
-        Some((label, map, target, live, puts)) => Ok(Some(Instr::PutMapExact(label, map, target, live, puts))),
+    match five::<
+        LabelShape,
+        SourceShape,
+        RegShape,
+        CountShape,
+        ListedTwo<SourceShape, SourceShape>,
+    >(alloc, parts)?
+    {
+        Some((label, map, target, live, puts)) => Ok(Some(Instr::PutMapExact(
+            label, map, target, live, puts,
+        ))),
         None => Ok(None),
     }
 }
@@ -613,9 +636,7 @@ fn fields_test(
 {
     match name {
         TestName::HasMapFields => match both::<SourceShape, Listed<SourceShape>>(
-            alloc,
-            map,
-            keys,
+            alloc, map, keys,
         )? {
             Some((source, keys)) => Ok(Some(Instr::Test(label, Test::HasMapFields(source, keys)))),
             None => Ok(None),
