@@ -1,0 +1,5 @@
+pub mod Layers
+mod Ends
+mod Between
+mod Counting
+mod Following
