@@ -10,3 +10,4 @@ said=$("$repository/bin/khepri" 2>&1) || [ $? -eq 7 ] || {
 python3 -B "$repository/bench/measure.py" "$repository/crates/khepri/out/khepri"
 python3 -B "$repository/bench/reopen.py" "$repository/crates/khepri/out/khepri"
 python3 -B "$repository/bench/shares.py" "$repository"
+python3 -B "$repository/bench/maps.py" "$repository"
