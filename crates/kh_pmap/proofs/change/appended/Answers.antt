@@ -8,5 +8,5 @@ returns g c =
     let n = c.as_ref-node.result.now in
     let es : entries c.args.right.now ≡ joined n.left (held n.key) (held n.value) n.right = opened _ _ _ c.in-Fork.is c.as_ref-node.ensures in
     subst (λ l. IfOk c.balanced.result (λ made. entries made ≡ l))
-        (ap (λ l. entries c.args.left.now ++ l) (c.in_ok-first.ensures ∙ sym es))
-        c.balanced.ensures
+    (ap (λ l. entries c.args.left.now ++ l) (c.in_ok-first.ensures ∙ sym es))
+    c.balanced.ensures
