@@ -3,6 +3,7 @@ pub use Rattle.kh_term.proofs.Spelling.{one_spelling}
 pub use Rattle.kh_term.proofs.Same.{same, whole_is}
 pub mod Bounds
 mod Examples
+pub mod InTurn
 pub mod Integers
 pub mod Layers
 pub mod Lengths

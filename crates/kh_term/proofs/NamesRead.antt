@@ -3,6 +3,7 @@ use Rattle.std.proofs.Common.{◌≡◌, ◌<◌, ◌≤◌, ◌↔◌, ◌&&◌
 use borrow.Author.Tests.{le-leb}
 use Rattle.std.specs.List.{list_all}
 use Rattle.std.proofs.lemmas.Bool.{and_from}
+use Rattle.kh_term.specs.declared.limits.TheConstants.{MOST_NAMES}
 use Rattle.kh_term.specs.declared.name.Name.{Name}
 use Rattle.kh_term.specs.declared.name.Name.TheVariants as name
 use Rattle.kh_term.specs.declared.tree.TermTree.{out-TermTree}
@@ -76,11 +77,11 @@ path_at : (ns : List Name) (r : Option (List Name)) → is_path ns ≡ true → 
 path_at ns None fits accepts value = absurd (let known = accepts.1 fits in cc)
 path_at ns (Some p) fits accepts value = ap Some value
 
-pub path_read : (t : TermTree) (parts : List TermTree) (tail : TermTree) (ns : List Name) (r : Option (List Name)) → t ≡ tree.List parts tail → is_nil (out-TermTree tail) ≡ true → length parts ≤ 32 → Some ns ≡ names_of parts → (IsSome r ↔ IsTrue (is_path ns)) → IfSome r (λ p. p ≡ ns) → r ≡ path_of t
+pub path_read : (t : TermTree) (parts : List TermTree) (tail : TermTree) (ns : List Name) (r : Option (List Name)) → t ≡ tree.List parts tail → is_nil (out-TermTree tail) ≡ true → length parts ≤ MOST_NAMES → Some ns ≡ names_of parts → (IsSome r ↔ IsTrue (is_path ns)) → IfSome r (λ p. p ≡ ns) → r ≡ path_of t
 path_read t parts tail ns r e nil short read accepts value =
     let are = names_are parts ns read in
-    let few : length ns ≤ 32 = omega (arith, are.0) in
-    path_at ns r (and_from _ _ (le-leb (length ns) 32 few) are.1) accepts value
+    let few : length ns ≤ MOST_NAMES = omega (arith, are.0) in
+    path_at ns r (and_from _ _ (le-leb (length ns) MOST_NAMES few) are.1) accepts value
     ∙ (read
-    ∙ (sym (λ i. if nil i && le-leb (length parts) 32 short i then names_of parts else None)
+    ∙ (sym (λ i. if nil i && le-leb (length parts) MOST_NAMES short i then names_of parts else None)
     ∙ sym (ap path_in (ap out-TermTree e ∙ outs-List parts tail))))

@@ -1,9 +1,10 @@
 -- Paths and origins are read back from their terms.
-use borrow.Author.Tests.{lt-ltb, ltb-true, le-leb}
-use Rattle.std.proofs.Common.{◌≡◌, ◌<◌, ◌≤◌, ◌&&◌, ℕ, suc, Bool, true, false, nat_lt, nat_le, IsTrue, if◌then◌else◌, List, [], ◌∷◌, length, map, Option, Some, None, refl, ap, sym, ◌∙◌, subst, ℤ, pos, negsuc, arith}
+use borrow.Author.Tests.{le-leb}
+use Rattle.std.proofs.Common.{◌≡◌, ◌≤◌, ◌&&◌, ℕ, suc, Bool, true, false, nat_le, IsTrue, if◌then◌else◌, List, [], ◌∷◌, length, map, Option, Some, None, refl, ap, sym, ◌∙◌, subst, ℤ, pos, negsuc, arith}
 use Rattle.std.specs.List.{list_all}
 use Rattle.std.proofs.lemmas.Bool.{and_from, and_parts, leb-true}
 use Rattle.std.proofs.lemmas.List.{length-map}
+use Rattle.kh_term.specs.declared.limits.TheConstants.{MOST_ARITY, MOST_NAMES}
 use Rattle.kh_term.specs.declared.name.Name.{Name}
 use Rattle.kh_term.specs.declared.name.Name.TheVariants as name
 use Rattle.kh_term.specs.declared.name.Origin.{Origin}
@@ -69,8 +70,8 @@ nil_is t e = go (out-TermTree t) refl e
 
 -- ---- paths
 
-path_named : (ns : List Name) → length ns ≤ 32 → list_all is_name ns ≡ true → is_path ns ≡ true
-path_named ns few each = and_from _ _ (le-leb (length ns) 32 few) each
+path_named : (ns : List Name) → length ns ≤ MOST_NAMES → list_all is_name ns ≡ true → is_path ns ≡ true
+path_named ns few each = and_from _ _ (le-leb (length ns) MOST_NAMES few) each
 
 of_list : (p : List Name) (n : TermTree) (parts : List TermTree) (tail : TermTree) → parts ≡ n ∷ map name_tree p → tail ≡ tree.Nil → tree.List parts tail ≡ tree.List (n ∷ map name_tree p) tree.Nil
 of_list p n parts tail e f = λ i. tree.List (e i) (f i)
@@ -82,12 +83,12 @@ path_reads x p e = go (out-TermTree x.node) refl e
     lists parts tail [] fits nil is = absurd (let some = subst (λ ps. IsTerm (tree.List ps tail)) is fits in let ends = ends_list [] tail some in cc)
     lists parts tail (n ∷ ns) fits nil is = of_list ns (name_tree n) parts tail is nil
 
-    listed : (parts : List TermTree) (tail : TermTree) → x.node ≡ tree.List parts tail → (b : Bool) → is_nil (out-TermTree tail) && nat_le (length parts) 32 ≡ b → (if b then names_of parts else None) ≡ Some p → (x.node ≡ path_tree p) × IsTrue (is_path p)
+    listed : (parts : List TermTree) (tail : TermTree) → x.node ≡ tree.List parts tail → (b : Bool) → is_nil (out-TermTree tail) && nat_le (length parts) MOST_NAMES ≡ b → (if b then names_of parts else None) ≡ Some p → (x.node ≡ path_tree p) × IsTrue (is_path p)
     listed parts tail f true g h =
-        let both = and_parts (is_nil (out-TermTree tail)) (nat_le (length parts) 32) g in
+        let both = and_parts (is_nil (out-TermTree tail)) (nat_le (length parts) MOST_NAMES) g in
         let are = names_are parts p (sym h) in
-        let short = leb-true (length parts) 32 both.1 in
-        let few : length p ≤ 32 = omega (arith, are.0, short) in
+        let short = leb-true (length parts) MOST_NAMES both.1 in
+        let few : length p ≤ MOST_NAMES = omega (arith, are.0, short) in
         (f ∙ lists parts tail p (subst IsTerm f x.fits) (nil_is tail both.0) (names_read parts p h), path_named p few are.1)
     listed parts tail f false g h = absurd (cc)
 
@@ -116,8 +117,8 @@ path_back t p h = ap path_of h.0 ∙ back p h.1
     back : (ns : List Name) → IsTrue (is_path ns) → path_of (path_tree ns) ≡ Some ns
     back [] g = ap path_in outs-Nil
     back (n ∷ ns) g =
-        let both = and_parts (nat_le (length (n ∷ ns)) 32) (list_all is_name (n ∷ ns)) g in
-        let short : nat_le (length (map name_tree (n ∷ ns))) 32 ≡ true = ap (λ k. nat_le k 32) (length-map (n ∷ ns) name_tree) ∙ both.0 in
+        let both = and_parts (nat_le (length (n ∷ ns)) MOST_NAMES) (list_all is_name (n ∷ ns)) g in
+        let short : nat_le (length (map name_tree (n ∷ ns))) MOST_NAMES ≡ true = ap (λ k. nat_le k MOST_NAMES) (length-map (n ∷ ns) name_tree) ∙ both.0 in
         ap path_in (outs-List (map name_tree (n ∷ ns)) tree.Nil)
         ∙ ((λ i. if is_nil (outs-Nil i) && short i then names_of (map name_tree (n ∷ ns)) else None) ∙ names_back (n ∷ ns) both.1)
 
@@ -136,17 +137,17 @@ atom_reads t text e = go (out-TermTree t) refl e
     go (layer.Map pairs) f h = absurd (cc)
     go (layer.Closure origin env) f h = absurd (cc)
 
-within : (n a : ℕ) → (if nat_lt n 256 then Some n else None) ≡ Some a → (n ≡ a) × (a < 256)
-within n a e = go (nat_lt n 256) refl e
+within : (n a : ℕ) → (if nat_le n MOST_ARITY then Some n else None) ≡ Some a → (n ≡ a) × (a ≤ MOST_ARITY)
+within n a e = go (nat_le n MOST_ARITY) refl e
   where
-    go : (b : Bool) → nat_lt n 256 ≡ b → (if b then Some n else None) ≡ Some a → (n ≡ a) × (a < 256)
-    go true f h = let same : n ≡ a = cc in (same, subst (λ k. k < 256) same (ltb-true n 256 f))
+    go : (b : Bool) → nat_le n MOST_ARITY ≡ b → (if b then Some n else None) ≡ Some a → (n ≡ a) × (a ≤ MOST_ARITY)
+    go true f h = let same : n ≡ a = cc in (same, subst (λ k. k ≤ MOST_ARITY) same (leb-true n MOST_ARITY f))
     go false f h = absurd (cc)
 
-arity_reads : (t : TermTree) (a : ℕ) → arity_in (out-TermTree t) ≡ Some a → (t ≡ tree.Int (pos a)) × (a < 256)
+arity_reads : (t : TermTree) (a : ℕ) → arity_in (out-TermTree t) ≡ Some a → (t ≡ tree.Int (pos a)) × (a ≤ MOST_ARITY)
 arity_reads t a e = go (out-TermTree t) refl e
   where
-    go : (l : TermTree-F TermTree) → out-TermTree t ≡ l → arity_in l ≡ Some a → (t ≡ tree.Int (pos a)) × (a < 256)
+    go : (l : TermTree-F TermTree) → out-TermTree t ≡ l → arity_in l ≡ Some a → (t ≡ tree.Int (pos a)) × (a ≤ MOST_ARITY)
     go (layer.Int (pos n)) f h = let both = within n a h in (layered t _ f ∙ (rolls-Int (pos n) ∙ ap (λ k. tree.Int (pos k)) both.0), both.1)
     go (layer.Int (negsuc n)) f h = absurd (cc)
     go (layer.Atom x) f h = absurd (cc)
@@ -157,26 +158,26 @@ arity_reads t a e = go (out-TermTree t) refl e
     go (layer.Map pairs) f h = absurd (cc)
     go (layer.Closure origin env) f h = absurd (cc)
 
-parts_read : (ts : List TermTree) (o : Origin) → origin_of_parts ts ≡ Some o → (tree.Tuple ts ≡ origin_tree o) × (o.arity < 256)
+parts_read : (ts : List TermTree) (o : Origin) → origin_of_parts ts ≡ Some o → (tree.Tuple ts ≡ origin_tree o) × (o.arity ≤ MOST_ARITY)
 parts_read [] o e = absurd (cc)
 parts_read (m ∷ []) o e = absurd (cc)
 parts_read (m ∷ f ∷ []) o e = absurd (cc)
 parts_read (m ∷ f ∷ a ∷ b ∷ ts) o e = absurd (cc)
 parts_read (m ∷ f ∷ a ∷ []) o e = go (atom_in (out-TermTree m)) (atom_in (out-TermTree f)) (arity_in (out-TermTree a)) refl refl refl e
   where
-    go : (x y : Option (List ℕ)) (z : Option ℕ) → atom_in (out-TermTree m) ≡ x → atom_in (out-TermTree f) ≡ y → arity_in (out-TermTree a) ≡ z → origin_with x y z ≡ Some o → (tree.Tuple (m ∷ f ∷ a ∷ []) ≡ origin_tree o) × (o.arity < 256)
+    go : (x y : Option (List ℕ)) (z : Option ℕ) → atom_in (out-TermTree m) ≡ x → atom_in (out-TermTree f) ≡ y → arity_in (out-TermTree a) ≡ z → origin_with x y z ≡ Some o → (tree.Tuple (m ∷ f ∷ a ∷ []) ≡ origin_tree o) × (o.arity ≤ MOST_ARITY)
     go (Some x) (Some y) (Some z) i j k h =
         let number = arity_reads a z k in
         let same : record { «module» = x; name = y; arity = z } ≡ o = cc in
-        ((λ w. tree.Tuple (atom_reads m x i w ∷ atom_reads f y j w ∷ number.0 w ∷ [])) ∙ ap origin_tree same, subst (λ q. q.arity < 256) same number.1)
+        ((λ w. tree.Tuple (atom_reads m x i w ∷ atom_reads f y j w ∷ number.0 w ∷ [])) ∙ ap origin_tree same, subst (λ q. q.arity ≤ MOST_ARITY) same number.1)
     go (Some x) (Some y) None i j k h = absurd (cc)
     go (Some x) None z i j k h = absurd (cc)
     go None y z i j k h = absurd (cc)
 
-pub origin_reads : (t : TermTree) (o : Origin) → origin_of t ≡ Some o → (t ≡ origin_tree o) × (o.arity < 256)
+pub origin_reads : (t : TermTree) (o : Origin) → origin_of t ≡ Some o → (t ≡ origin_tree o) × (o.arity ≤ MOST_ARITY)
 origin_reads t o e = go (out-TermTree t) refl e
   where
-    go : (l : TermTree-F TermTree) → out-TermTree t ≡ l → origin_in l ≡ Some o → (t ≡ origin_tree o) × (o.arity < 256)
+    go : (l : TermTree-F TermTree) → out-TermTree t ≡ l → origin_in l ≡ Some o → (t ≡ origin_tree o) × (o.arity ≤ MOST_ARITY)
     go (layer.Tuple parts) f h = let both = parts_read parts o h in (layered t _ f ∙ (rolls-Tuple parts ∙ both.0), both.1)
     go (layer.Int number) f h = absurd (cc)
     go (layer.Atom x) f h = absurd (cc)
@@ -186,9 +187,9 @@ origin_reads t o e = go (out-TermTree t) refl e
     go (layer.Map pairs) f h = absurd (cc)
     go (layer.Closure origin env) f h = absurd (cc)
 
-pub origin_back : (t : TermTree) (o : Origin) → (t ≡ origin_tree o) × (o.arity < 256) → origin_of t ≡ Some o
+pub origin_back : (t : TermTree) (o : Origin) → (t ≡ origin_tree o) × (o.arity ≤ MOST_ARITY) → origin_of t ≡ Some o
 origin_back t o h =
     ap origin_of h.0
     ∙ (ap origin_in (outs-Tuple (tree.Atom o.module ∷ tree.Atom o.name ∷ tree.Int (pos o.arity) ∷ []))
     ∙ ((λ i. origin_with (atom_in (outs-Atom o.module i)) (atom_in (outs-Atom o.name i)) (arity_in (outs-Int (pos o.arity) i)))
-    ∙ ap (λ b. origin_with (Some o.module) (Some o.name) (if b then Some o.arity else None)) (lt-ltb o.arity 256 h.1)))
+    ∙ ap (λ b. origin_with (Some o.module) (Some o.name) (if b then Some o.arity else None)) (le-leb o.arity MOST_ARITY h.1)))

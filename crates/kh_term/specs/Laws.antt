@@ -2,6 +2,7 @@
 use Rattle.std.specs.Prelude.{◌≡◌, ◌≤◌, ◌<◌, ◌*◌, ◌^◌, ◌↔◌, ℕ, List, ◌++◌, length, IsTrue, Some}
 use Rattle.std.specs.declared.cmp.Ordering.TheVariants.{Equal}
 use Rattle.std.specs.Cmp.{IsTotalOrder}
+use Rattle.kh_term.specs.declared.limits.TheConstants.{MOST_ARITY}
 use Rattle.kh_term.specs.declared.name.Name.{Name}
 use Rattle.kh_term.specs.declared.term.Term.{Term}
 use Rattle.kh_term.specs.Lookup.{value_at}
@@ -58,7 +59,7 @@ PathsReadBack = (x : Term) (p : List Name) → (path_of x.node ≡ Some p) ↔ (
 
 -- A term stands for an origin exactly where it is the origin's triple.
 abbrev pub OriginsReadBack : Type 0
-OriginsReadBack = (x : Term) (o : Origin) → (origin_of x.node ≡ Some o) ↔ ((x.node ≡ origin_tree o) × (o.arity < 256))
+OriginsReadBack = (x : Term) (o : Origin) → (origin_of x.node ≡ Some o) ↔ ((x.node ≡ origin_tree o) × (o.arity ≤ MOST_ARITY))
 
 -- Each term has packed bytes of its own, and none are the front of another's: where two of them begin one list of
 -- bytes, they are the bytes of one term, and what follows is the same. Counts have four bytes, so the terms are less

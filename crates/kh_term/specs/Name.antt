@@ -6,6 +6,7 @@ use Rattle.std.specs.Cmp.{IsTotalOrder, then_total, on_total, nat_cmp_total}
 use Rattle.std.specs.Cmp.Lexicographic.{slice_cmp, nat_list_cmp_total, lists_total}
 use Rattle.std.specs.List.{list_all}
 use Rattle.std.specs.Str.{bytes_eq}
+use Rattle.kh_term.specs.declared.limits.TheConstants.{MOST_NAME_BYTES, MOST_NAMES}
 use Rattle.kh_term.specs.declared.name.Name.{Name}
 use Rattle.kh_term.specs.declared.name.Origin.{Origin}
 use Rattle.kh_term.specs.declared.name.Name.TheVariants as name
@@ -38,7 +39,7 @@ path_total = lists_total name_total
 
 -- 1 to 255 bytes
 abbrev pub has_name_length : List ℕ → Bool
-has_name_length text = nat_le 1 (length text) && nat_le (length text) 255
+has_name_length text = nat_le 1 (length text) && nat_le (length text) MOST_NAME_BYTES
 
 -- Whether a name may name a node: it has 1 to 255 bytes, and isn't one of the atoms `.` and `^`, which stand for
 -- the written node and its parent.
@@ -48,7 +49,7 @@ is_name (name.Bin bytes) = has_name_length bytes
 
 -- a path: at most 32 names
 abbrev pub is_path : List Name → Bool
-is_path names = nat_le (length names) 32 && list_all is_name names
+is_path names = nat_le (length names) MOST_NAMES && list_all is_name names
 
 -- by module, name and arity
 abbrev pub origin_cmp : Origin → Origin → Ordering

@@ -1,5 +1,6 @@
 -- Terms that stand for names, paths, origins and functions.
-use Rattle.std.specs.Prelude.{ℕ, Bool, true, false, ◌&&◌, nat_le, nat_lt, if◌then◌else◌, List, [], ◌∷◌, length, map, Option, Some, None, ℤ, pos, negsuc}
+use Rattle.std.specs.Prelude.{ℕ, Bool, true, false, ◌&&◌, nat_le, if◌then◌else◌, List, [], ◌∷◌, length, map, Option, Some, None, ℤ, pos, negsuc}
+use Rattle.kh_term.specs.declared.limits.TheConstants.{MOST_ARITY, MOST_NAMES}
 use Rattle.kh_term.specs.declared.name.Name.{Name}
 use Rattle.kh_term.specs.declared.name.Name.TheVariants as name
 use Rattle.kh_term.specs.declared.name.Origin.{Origin}
@@ -38,7 +39,7 @@ names_of (t ∷ ts) = in_front (name_of t) (names_of ts)
 abbrev pub path_in : TermTree-F TermTree → Option (List Name)
 path_in layer.Nil = Some []
 path_in (layer.List parts tail) =
-    if is_nil (out-TermTree tail) && nat_le (length parts) 32 then names_of parts else None
+    if is_nil (out-TermTree tail) && nat_le (length parts) MOST_NAMES then names_of parts else None
 path_in l = None
 
 -- the path that a term stands for: a list of at most 32 names
@@ -56,7 +57,7 @@ atom_in (layer.Atom text) = Some text
 atom_in l = None
 
 abbrev pub arity_within : ℤ → Option ℕ
-arity_within (pos n) = if nat_lt n 256 then Some n else None
+arity_within (pos n) = if nat_le n MOST_ARITY then Some n else None
 arity_within (negsuc n) = None
 
 abbrev pub arity_in : {A : Type 0} → TermTree-F A → Option ℕ

@@ -5,6 +5,7 @@ ghost use Rattle.std.specs.Ordering.{nat_cmp};
 ghost use Rattle.std.specs.Cmp.{partial_equiv_from_equiv};
 ghost use Rattle.std.specs.Cmp.Lexicographic.{pointwise, slice_cmp, nat_list_eq_equiv, nat_list_cmp_total, texts_ties, texts_po};
 
+use crate::limits::MOST_NAME_BYTES;
 use crate::memory::NoMemory;
 use std::alloc::Global;
 use std::cmp::Ordering;
@@ -91,7 +92,7 @@ impl Atom {
         ensures accepts { IsSome result ↔ IsTrue (is_atom_text text.items) }
         ensures value { IfSome result (λ a. a ≡ text.items) }
     {
-        if text.len() > 255 {
+        if text.len() > MOST_NAME_BYTES {
             return None;
         }
         if !is_valid_utf8(text.as_slice()) {

@@ -14,8 +14,10 @@ impl Closure {
     /// A copy of the function that a term is; none where it is no function.
     #[tactic(auto, using(crate::proofs::Layers::nils, crate::specs::Lemmas::Fits::parts))]
     pub fn of_term(alloc: Global, term: &Term) -> Result<Option<Closure>, NoMemory>
-        ensures found { IfOk result (λ found. is_some found ≡ is_closure (out-TermTree term.now.node)) }
-        ensures same { IfOk result (λ found. IfSome found (λ closure. closure_tree closure ≡ term.now.node)) }
+        ensures found { IfOk result
+            (λ found. is_some found ≡ is_closure (out-TermTree term.now.node)) }
+        ensures same { IfOk result
+            (λ found. IfSome found (λ closure. closure_tree closure ≡ term.now.node)) }
     {
         match &term.node {
             TermTree::Closure(origin, env) => {

@@ -21,6 +21,7 @@ mod packed_lens;
 mod pairs;
 mod path;
 mod plural;
+mod pushing;
 mod sizes;
 mod steps;
 mod term;
@@ -41,7 +42,10 @@ pub use laws::{
     one_packed_spelling, order_is_total, origins_read_back, packed_is_at_most_515_times_size,
     paths_compare_as_terms, paths_read_back, size_is_at_most_twice_packed, width_is_at_most_packed,
 };
-pub use limits::{MOST_DEPTH, MOST_SIZE, holds_closure, is_small, tree_holds_closure};
+pub use limits::{
+    MOST_ARITY, MOST_DEPTH, MOST_NAME_BYTES, MOST_NAMES, MOST_SIZE, MOST_TEXT_BYTES, holds_closure,
+    is_large, is_small, tree_holds_closure,
+};
 pub use lookup::{place_of_key, value_of_key};
 pub use make::{
     atom, bin, closure, int, list, list_with_tail, map, map_of_one, nil, pair, path_term,
@@ -54,6 +58,7 @@ pub use names::{name_of, names_of, origin_of, origin_term, path_of};
 pub use packed_lens::{integer_len, packed_len, tree_packed_len};
 pub use path::Path;
 pub use plural::{Names, Paths, Several, Texts};
+pub use pushing::{push_byte, push_bytes};
 pub use sizes::{size, tree_size};
 pub use steps::Steps;
 pub use term::{Closure, Pairs, Term, Terms};

@@ -1,5 +1,5 @@
 //! What is asked of terms that are kept, passed on or computed.
-ghost use Rattle.std.specs.Prelude.{◌≡◌, ◌-◌, ◌^◌, ◌||◌, min, ℕ};
+ghost use Rattle.std.specs.Prelude.{◌≡◌, ◌-◌, ◌^◌, ◌||◌, min, nat_lt, ℕ};
 ghost use Rattle.std.specs.List.{list_any};
 ghost use Rattle.kh_term.specs.Limits.{holds_closure, is_small, most_size, most_depth};
 ghost use Rattle.kh_term.specs.Size.{size_of, sizes_of, pair_sizes_of};
@@ -13,6 +13,18 @@ pub const MOST_SIZE: u64 = 1_048_576;
 
 /// The greatest depth of a term that is read or computed.
 pub const MOST_DEPTH: u32 = 200;
+
+/// The most names of a path.
+pub const MOST_NAMES: usize = 32;
+
+/// The most bytes of an atom, and of the name of a node.
+pub const MOST_NAME_BYTES: usize = 255;
+
+/// The greatest whole arity of a function.
+pub const MOST_ARITY: u8 = 255;
+
+/// The most bytes of a text.
+pub const MOST_TEXT_BYTES: usize = 4096;
 
 /// Whether a function stands anywhere in a term.
 pub fn holds_closure(term: &Term) -> bool
@@ -71,6 +83,13 @@ pub fn is_small(term: &Term) -> bool
     ensures { result ≡ is_small term.now.node }
 {
     capped_size(&term.node) <= MOST_SIZE && depth(term) <= MOST_DEPTH
+}
+
+/// Whether a term is larger than one that is read or computed.
+pub fn is_large(term: &Term) -> bool
+    ensures { result ≡ nat_lt most_size (size_of term.now.node) }
+{
+    capped_size(&term.node) > MOST_SIZE
 }
 
 // The size of a term, or 2^64 - 1 where it is more.

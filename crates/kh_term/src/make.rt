@@ -6,6 +6,7 @@ ghost use Rattle.kh_term.specs.WellFormed.{IsTerm, AreTerms};
 ghost use Rattle.kh_term.specs.Make.{list_of, list_with_tail, name_tree, path_tree};
 
 use crate::bytes::{Atom, Bytes};
+use crate::limits::MOST_NAME_BYTES;
 use crate::memory::NoMemory;
 use crate::name::{Name, Origin};
 use crate::path::Path;
@@ -199,7 +200,7 @@ pub fn map_of_one(alloc: Global, key: Term, value: Term) -> Result<Term, NoMemor
 
 /// The atom of a word.
 pub fn word(alloc: Global, text: &str) -> Result<Term, NoMemory>
-    requires { length text.now ≤ 255 }
+    requires { length text.now ≤ MOST_NAME_BYTES }
     ensures { IfOk result (λ t. t.node ≡ tree.Atom text.now) }
 {
     match Atom::new(Vec::from_slice(alloc, text.as_bytes())?) {
@@ -220,7 +221,8 @@ pub fn pair(alloc: Global, first: Term, second: Term) -> Result<Term, NoMemory>
 
 /// A tuple of three terms.
 pub fn triple(alloc: Global, first: Term, second: Term, third: Term) -> Result<Term, NoMemory>
-    ensures { IfOk result (λ t. t.node ≡ tree.Tuple (first.node ∷ second.node ∷ third.node ∷ [])) }
+    ensures { IfOk result
+        (λ t. t.node ≡ tree.Tuple (first.node ∷ second.node ∷ third.node ∷ [])) }
 {
     let mut parts = Terms::new(alloc);
     parts.push(first)?;

@@ -5,6 +5,7 @@ ghost use Rattle.std.specs.Str.{bytes_eq};
 ghost use Rattle.kh_term.specs.Name.{is_name, has_name_length, name_cmp, name_total, origin_cmp, origin_total};
 
 use crate::bytes::{Atom, Bytes};
+use crate::limits::MOST_NAME_BYTES;
 use crate::memory::NoMemory;
 use std::alloc::Global;
 use std::cmp::Ordering;
@@ -64,7 +65,7 @@ impl Origin {
 fn has_name_length(text: &[u8]) -> bool
     ensures { result ≡ has_name_length text.now }
 {
-    1 <= text.len() && text.len() <= 255
+    1 <= text.len() && text.len() <= MOST_NAME_BYTES
 }
 
 // Whether it is the text of `.` or `^`.

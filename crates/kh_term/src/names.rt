@@ -5,6 +5,7 @@ ghost use Rattle.kh_term.specs.Parts.{named, name_of, names_of, path_of, origin_
 
 use crate::bytes::Atom;
 use crate::depths::is_nil;
+use crate::limits::{MOST_ARITY, MOST_NAMES};
 use crate::make::{atom, int, triple};
 use crate::memory::NoMemory;
 use crate::name::{Name, Origin};
@@ -60,7 +61,7 @@ pub fn path_of(alloc: Global, tree: &TermTree) -> Result<Option<Path>, NoMemory>
     match tree {
         TermTree::Nil => Ok(Path::new(Vec::new(alloc))),
         TermTree::List(parts, tail) => {
-            if !is_nil(tail.get()) || parts.len() > 32 {
+            if !is_nil(tail.get()) || parts.len() > MOST_NAMES {
                 return Ok(None);
             }
             match names_of(alloc, parts.as_slice())? {
@@ -121,7 +122,7 @@ fn arity_in(tree: &TermTree) -> Option<u8>
 fn arity_within(number: i128) -> Option<u8>
     ensures { result ≡ arity_within number }
 {
-    if number < 0 || number > 255 {
+    if number < 0 || number > MOST_ARITY as i128 {
         return None;
     }
     Some(number as u8)

@@ -63,7 +63,8 @@ impl Pairs {
     /// Adds a key that is above all others, with its value.
     pub fn push_rising(&mut self, key: Term, value: Term) -> Result<(), NoMemory>
         requires { IsTrue (rises_after self.old.nodes key.node) }
-        ensures ok { OnOk result (self.new.nodes ≡ self.old.nodes ++ (key.node, value.node) ∷ []) }
+        ensures ok { OnOk result
+            (self.new.nodes ≡ self.old.nodes ++ (key.node, value.node) ∷ []) }
         ensures err { OnErr result (self.new ≡ self.old) }
     {
         let Term { node: key } = key;
@@ -75,7 +76,8 @@ impl Pairs {
     /// Adds a key with its value, where it is above all others. Answers whether it is; else nothing is added.
     pub fn push(&mut self, key: Term, value: Term) -> Result<bool, NoMemory>
         ensures answer { IfOk result (λ added. added ≡ rises_after self.old.nodes key.node) }
-        ensures ok { OnOk result (self.new.nodes ≡ (if rises_after self.old.nodes key.node then self.old.nodes ++ (key.node, value.node) ∷ [] else self.old.nodes)) }
+        ensures ok { OnOk result (self.new.nodes ≡ (if rises_after self.old.nodes key.node
+            then self.old.nodes ++ (key.node, value.node) ∷ [] else self.old.nodes)) }
         ensures err { OnErr result (self.new ≡ self.old) }
     {
         if !self.rises(&key) {

@@ -4,6 +4,7 @@ ghost use Rattle.std.specs.Cmp.{partial_equiv_from_equiv, eq_by_cmp_equiv, po};
 ghost use Rattle.std.specs.List.{list_all};
 ghost use Rattle.kh_term.specs.Name.{is_name, is_path, path_cmp, path_total};
 
+use crate::limits::MOST_NAMES;
 use crate::memory::NoMemory;
 use crate::name::Name;
 use std::alloc::Global;
@@ -42,7 +43,7 @@ impl Path {
         ensures accepts { IsSome result ↔ IsTrue (is_path names.items) }
         ensures value { IfSome result (λ path. path ≡ names.items) }
     {
-        if names.len() > 32 {
+        if names.len() > MOST_NAMES {
             return None;
         }
         if !are_names(names.as_slice()) {
@@ -54,7 +55,7 @@ impl Path {
     /// The number of names, at most 32.
     pub fn len(&self) -> usize
         ensures len { result ≡ length self.now }
-        ensures short { result ≤ 32 }
+        ensures short { result ≤ MOST_NAMES }
     {
         self.names.len()
     }

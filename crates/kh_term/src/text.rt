@@ -5,6 +5,7 @@ ghost use Rattle.std.specs.Cmp.Lexicographic.{pointwise, slice_cmp, nat_list_eq_
 ghost use Rattle.kh_term.specs.Text.{is_text};
 
 use crate::bytes::is_valid_utf8;
+use crate::limits::MOST_TEXT_BYTES;
 use crate::memory::NoMemory;
 use std::alloc::Global;
 use std::cmp::Ordering;
@@ -33,7 +34,7 @@ impl Text {
         ensures accepts { IsSome result ↔ IsTrue (is_text bytes.items) }
         ensures value { IfSome result (λ t. t ≡ bytes.items) }
     {
-        if bytes.len() > 4096 {
+        if bytes.len() > MOST_TEXT_BYTES {
             return None;
         }
         if !is_valid_utf8(bytes.as_slice()) {
