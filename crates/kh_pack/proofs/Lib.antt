@@ -1,6 +1,5 @@
 -- For the crates above.
 pub use Rattle.kh_pack.proofs.Place.{stands_again, none_stands}
-mod InTurn
 mod Integers
 mod Parts
 mod Loops

@@ -4,14 +4,16 @@ ghost use Rattle.kh_term.specs.Packed.{packed_of, all_packed_of, pairs_packed_of
 ghost use Rattle.kh_term.specs.Size.{width_of, greatest};
 ghost use Rattle.kh_term.specs.WellFormed.{IsTerm, AreTerms, ArePairs};
 
-use crate::pieces::{push_byte, push_bytes, push_head, push_integer, push_short};
+use crate::pieces::{push_head, push_integer, push_short};
 use crate::tags::{ATOM, BINARY, CLOSURE, INTEGER, LIST, MAP, NIL, TUPLE};
-use kh_term::{NoMemory, Origin, TermTree};
+use kh_term::{NoMemory, Origin, TermTree, push_byte, push_bytes};
 
 // Adds a tag, where a function was written, its arity, and the number of captured values.
 fn push_origin(out: &mut Vec<u8>, origin: &Origin, captured: usize) -> Result<(), NoMemory>
     requires { captured < 256 }
-    ensures { OnOk result (out.new.items ≡ out.old.items ++ 8 ∷ (short_text origin.now.module ++ (short_text origin.now.name ++ (origin.now.arity ∷ captured ∷ [])))) }
+    ensures { OnOk result (out.new.items ≡ out.old.items
+        ++ 8 ∷ (short_text origin.now.module
+        ++ (short_text origin.now.name ++ (origin.now.arity ∷ captured ∷ [])))) }
 {
     push_byte(out, CLOSURE)?;
     push_short(out, origin.module.as_slice())?;

@@ -1,26 +1,10 @@
 //! Small pieces of packed bytes at the end of a buffer.
-ghost use Rattle.std.specs.Prelude.{◌≡◌, ◌<◌, ◌^◌, ◌++◌, ◌∷◌, [], OnOk, length};
+ghost use Rattle.std.specs.Prelude.{◌≡◌, ◌<◌, ◌^◌, ◌++◌, ◌∷◌, OnOk, length};
 ghost use Rattle.std.specs.Int.{to_be_bytes, w32};
 ghost use Rattle.kh_term.specs.Packed.{integer_len, integer_bytes, short_text};
 
 use byteorder::{BigEndian, ByteOrder};
-use kh_term::{NoMemory, integer_len};
-
-// Adds these bytes.
-pub fn push_bytes(out: &mut Vec<u8>, bytes: &[u8]) -> Result<(), NoMemory>
-    ensures { OnOk result (out.new.items ≡ out.old.items ++ bytes.now) }
-{
-    out.extend_from_slice(bytes)?;
-    Ok(())
-}
-
-// Adds one byte.
-pub fn push_byte(out: &mut Vec<u8>, byte: u8) -> Result<(), NoMemory>
-    ensures { OnOk result (out.new.items ≡ out.old.items ++ byte ∷ []) }
-{
-    out.push(byte)?;
-    Ok(())
-}
+use kh_term::{NoMemory, integer_len, push_byte, push_bytes};
 
 // Adds a tag and a count.
 pub fn push_head(out: &mut Vec<u8>, tag: u8, count: usize) -> Result<(), NoMemory>
@@ -44,7 +28,8 @@ pub fn push_short(out: &mut Vec<u8>, text: &[u8]) -> Result<(), NoMemory>
 
 // Adds the length of an integer and its bytes.
 pub fn push_integer(out: &mut Vec<u8>, number: i128) -> Result<(), NoMemory>
-    ensures { OnOk result (out.new.items ≡ out.old.items ++ integer_len number ∷ integer_bytes number) }
+    ensures { OnOk result
+        (out.new.items ≡ out.old.items ++ integer_len number ∷ integer_bytes number) }
 {
     let len = integer_len(number);
     let mut bytes = [0; 16];

@@ -33,7 +33,8 @@ fn read_flat(alloc: Global, tag: u8, bytes: &[u8]) -> Result<(Term, &[u8]), Stop
 // Reads so many terms of at most this depth.
 #[cycle(term)]
 fn read_many(alloc: Global, depth: u32, count: u32, bytes: &[u8]) -> Result<(Terms, &[u8]), Stop>
-    ensures exact { Gives (λ x. (x.0.nodes, x.1.now)) result (many_at (term_at depth) count [] bytes.now) }
+    ensures exact { Gives (λ x. (x.0.nodes, x.1.now)) result
+        (many_at (term_at depth) count [] bytes.now) }
     ensures number { IfOk result (λ x. length x.0.nodes ≡ count) }
 {
     let mut parts = Terms::new(alloc);
@@ -49,7 +50,8 @@ fn read_many(alloc: Global, depth: u32, count: u32, bytes: &[u8]) -> Result<(Ter
 // Reads so many keys with their values, of at most this depth. The keys have to rise.
 #[cycle(term)]
 fn read_pairs(alloc: Global, depth: u32, count: u32, bytes: &[u8]) -> Result<(Pairs, &[u8]), Stop>
-    ensures { Gives (λ x. (x.0.nodes, x.1.now)) result (pairs_at (term_at depth) count [] bytes.now) }
+    ensures { Gives (λ x. (x.0.nodes, x.1.now)) result
+        (pairs_at (term_at depth) count [] bytes.now) }
 {
     let mut pairs = Pairs::new(alloc);
     let mut rest = bytes;

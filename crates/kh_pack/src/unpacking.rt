@@ -16,8 +16,10 @@ const MAX_DEPTH: u32 = 256;
 /// follow. Answers `NotPacked` with the place where there is no such term, at the end of the bytes and past it too.
 pub fn unpack(alloc: Global, bytes: &[u8], at: usize) -> Result<(Term, usize), UnpackError>
     ensures found { IfOk result (λ read. IsPackedAt bytes.now at read.1 read.0.node) }
-    ensures only { (t : Term) (end : ℕ) → IsPackedAt bytes.now at end t.node → IsUnlessMemory result (t, end) }
-    ensures not_packed { (place : ℕ) → result ≡ Err (NotPacked place) → (place ≡ at) × NothingPackedAt bytes.now at }
+    ensures only { (t : Term) (end : ℕ) → IsPackedAt bytes.now at end t.node
+        → IsUnlessMemory result (t, end) }
+    ensures not_packed { (place : ℕ) → result ≡ Err (NotPacked place)
+        → (place ≡ at) × NothingPackedAt bytes.now at }
 {
     if at > bytes.len() {
         return Err(UnpackError::NotPacked(at));

@@ -2,7 +2,7 @@ use Rattle.std.proofs.Common.{rules, [], ◌∷◌, ◌++◌, length, SFits}
 use Rattle.std.specs.Int.{to_be_bytes, w32, w128}
 use Rattle.kh_term.specs.declared.tree.TermTree.TheViews.{the_lemmas}
 use Rattle.kh_term.specs.Packed.{packed_of, all_packed_of, pairs_packed_of, short_text}
-use Rattle.kh_pack.proofs.InTurn.{joined, closed}
+use Rattle.kh_term.proofs.InTurn.{joined, closed}
 use Rattle.kh_pack.proofs.Parts.{count-Tuple, count-Map, count-Closure, parts-List, tail-List, parts-Tuple, pairs-Map, parts-Closure, one_part, one_pair, spelled-Int, spelled-Atom, spelled-Bin, spelled-List, spelled-Tuple, spelled-Map, spelled-Closure}
 use Rattle.kh_pack.proofs.node.+node.Goals as goal
 

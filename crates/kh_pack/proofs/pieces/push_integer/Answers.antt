@@ -1,6 +1,6 @@
 use Rattle.std.proofs.Common.{[], ◌∷◌, take}
 use Rattle.kh_term.specs.Packed.{integer_len, integer_bytes}
-use Rattle.kh_pack.proofs.InTurn.{closed}
+use Rattle.kh_term.proofs.InTurn.{closed}
 use Rattle.kh_pack.proofs.Integers.{len_is, front_is}
 use Rattle.kh_pack.proofs.pieces.push_integer.Goals as goal
 
