@@ -34,3 +34,7 @@ part_written text_of parts at some first before after whole within so_far writte
     ∙ (append_assoc before (separator first) (text_of part ++ left_to_write false rest)
     ∙ (ap (λ w. before ++ w) (sym (one_more first (text_of part) rest))
     ∙ (ap (λ ps. before ++ left_to_write first (map text_of ps)) (sym cut) ∙ so_far))))
+
+-- what was written is the text of x, which is y
+pub read_as : {A : Type 0} (text_of : A → List ℕ) (before after : List ℕ) (x y : A) → x ≡ y → after ≡ before ++ text_of x → after ≡ before ++ text_of y
+read_as text_of before after x y is written = written ∙ ap (λ v. before ++ text_of v) is

@@ -1,5 +1,4 @@
 mod Hex
-mod InTurn
 mod Joined
 mod Layers
 mod ShownTokens

@@ -4,15 +4,16 @@ ghost use Rattle.std.specs.Fmt.{digits};
 ghost use Rattle.std.specs.List.{flat_map};
 ghost use Rattle.kh_text_defs.specs.Shown.{quoted_byte, shown_atom};
 
-use crate::pieces::{push_byte, push_hex, push_text};
-use kh_term::NoMemory;
+use crate::pieces::push_hex;
+use kh_term::{NoMemory, push_byte, push_bytes};
 use kh_text_defs::is_plain;
 
 // Adds a byte as its code, `\x{H}`.
 fn push_code(out: &mut Vec<u8>, byte: u8) -> Result<(), NoMemory>
-    ensures { OnOk result (out.new.items ≡ out.old.items ++ (codes "\\x{" ++ digits 16 false byte ++ codes "}")) }
+    ensures { OnOk result (out.new.items ≡ out.old.items
+        ++ (codes "\\x{" ++ digits 16 false byte ++ codes "}")) }
 {
-    push_text(out, b"\\x{")?;
+    push_bytes(out, b"\\x{")?;
     push_hex(out, byte)?;
     push_byte(out, b'}')
 }
@@ -22,11 +23,11 @@ fn push_quoted_byte(out: &mut Vec<u8>, byte: u8) -> Result<(), NoMemory>
     ensures { OnOk result (out.new.items ≡ out.old.items ++ quoted_byte byte) }
 {
     match byte {
-        b'\\' => push_text(out, b"\\\\"),
-        b'\'' => push_text(out, b"\\'"),
-        b'\n' => push_text(out, b"\\n"),
-        b'\r' => push_text(out, b"\\r"),
-        b'\t' => push_text(out, b"\\t"),
+        b'\\' => push_bytes(out, b"\\\\"),
+        b'\'' => push_bytes(out, b"\\'"),
+        b'\n' => push_bytes(out, b"\\n"),
+        b'\r' => push_bytes(out, b"\\r"),
+        b'\t' => push_bytes(out, b"\\t"),
         0..=31 | 127 => push_code(out, byte),
         _ => push_byte(out, byte),
     }
@@ -47,7 +48,7 @@ pub fn push_atom(out: &mut Vec<u8>, text: &[u8]) -> Result<(), NoMemory>
     ensures { OnOk result (out.new.items ≡ out.old.items ++ shown_atom text.now) }
 {
     if is_plain(text) {
-        return push_text(out, text);
+        return push_bytes(out, text);
     }
     push_byte(out, b'\'')?;
     push_quoted(out, text)?;

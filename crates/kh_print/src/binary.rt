@@ -3,8 +3,8 @@ ghost use Rattle.std.specs.Prelude.{◌≡◌, ◌++◌, OnOk, map, decimal, cod
 ghost use Rattle.std.specs.List.{flat_map, list_all};
 ghost use Rattle.kh_text_defs.specs.Shown.{is_printable, text_byte, with_commas, shown_bytes};
 
-use crate::pieces::{push_byte, push_decimal, push_separator, push_text};
-use kh_term::NoMemory;
+use crate::pieces::{push_decimal, push_separator};
+use kh_term::{NoMemory, push_byte, push_bytes};
 
 // Whether all bytes are printable.
 fn all_printable(bytes: &[u8]) -> bool
@@ -18,8 +18,8 @@ fn push_text_byte(out: &mut Vec<u8>, byte: u8) -> Result<(), NoMemory>
     ensures { OnOk result (out.new.items ≡ out.old.items ++ text_byte byte) }
 {
     match byte {
-        b'\\' => push_text(out, b"\\\\"),
-        b'"' => push_text(out, b"\\\""),
+        b'\\' => push_bytes(out, b"\\\\"),
+        b'"' => push_bytes(out, b"\\\""),
         _ => push_byte(out, byte),
     }
 }
@@ -48,7 +48,7 @@ fn push_numbers(out: &mut Vec<u8>, bytes: &[u8]) -> Result<(), NoMemory>
 }
 
 // Adds what stands inside the brackets of a binary.
-fn push_bytes(out: &mut Vec<u8>, bytes: &[u8]) -> Result<(), NoMemory>
+fn push_inside(out: &mut Vec<u8>, bytes: &[u8]) -> Result<(), NoMemory>
     ensures { OnOk result (out.new.items ≡ out.old.items ++ shown_bytes bytes.now) }
 {
     if bytes.is_empty() {
@@ -64,9 +64,10 @@ fn push_bytes(out: &mut Vec<u8>, bytes: &[u8]) -> Result<(), NoMemory>
 
 // Adds a binary.
 pub fn push_binary(out: &mut Vec<u8>, bytes: &[u8]) -> Result<(), NoMemory>
-    ensures { OnOk result (out.new.items ≡ out.old.items ++ (codes "<<" ++ shown_bytes bytes.now ++ codes ">>")) }
+    ensures { OnOk result (out.new.items ≡ out.old.items
+        ++ (codes "<<" ++ shown_bytes bytes.now ++ codes ">>")) }
 {
-    push_text(out, b"<<")?;
-    push_bytes(out, bytes)?;
-    push_text(out, b">>")
+    push_bytes(out, b"<<")?;
+    push_inside(out, bytes)?;
+    push_bytes(out, b">>")
 }

@@ -15,15 +15,15 @@ mod pieces;
 mod tests;
 
 use crate::node::push_node;
-use crate::pieces::push_text;
-use kh_term::{NoMemory, Term};
+use kh_term::{NoMemory, Term, push_bytes};
 use std::alloc::Global;
 
 /// The canonical text of a term, which spells the term, in a script as in a listing. Answers `NoMemory` where the text
 /// finds no room.
 pub fn print(alloc: Global, term: &Term) -> Result<Vec<u8>, NoMemory>
     ensures text { IfOk result (λ bytes. bytes.items ≡ shown term.now.node) }
-    ensures spelled { IfOk result (λ bytes. (mode : Mode) → Spells (within_limits mode) (depth_of term.now.node) bytes.items term.now.node) }
+    ensures spelled { IfOk result (λ bytes. (mode : Mode)
+        → Spells (within_limits mode) (depth_of term.now.node) bytes.items term.now.node) }
 {
     let mut out = Vec::new(alloc);
     push_node(&mut out, &term.node)?;
@@ -36,6 +36,6 @@ pub fn print_line(alloc: Global, reply: &Term) -> Result<Vec<u8>, NoMemory>
 {
     let mut out = Vec::new(alloc);
     push_node(&mut out, &reply.node)?;
-    push_text(&mut out, b".\n")?;
+    push_bytes(&mut out, b".\n")?;
     Ok(out)
 }

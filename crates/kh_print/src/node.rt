@@ -6,16 +6,16 @@ ghost use Rattle.kh_print.specs.Parts.{shown_origin, shown_pair, shown_tail_of};
 
 use crate::atom::push_atom;
 use crate::binary::push_binary;
-use crate::pieces::{push_byte, push_decimal, push_separator, push_text};
+use crate::pieces::{push_decimal, push_separator};
 use itoa::Buffer;
-use kh_term::{NoMemory, Origin, TermTree};
+use kh_term::{NoMemory, Origin, TermTree, push_byte, push_bytes};
 
 // Adds an integer.
 fn push_integer(out: &mut Vec<u8>, number: i128) -> Result<(), NoMemory>
     ensures { OnOk result (out.new.items ≡ out.old.items ++ signed_decimal number) }
 {
     let mut buffer = Buffer::new();
-    push_text(out, buffer.format(number).as_bytes())
+    push_bytes(out, buffer.format(number).as_bytes())
 }
 
 // Adds where a function was written, and the comma after it.
@@ -61,13 +61,14 @@ fn push_parts(out: &mut Vec<u8>, parts: &[TermTree]) -> Result<(), NoMemory>
 // Adds the keys and values of a map, with commas between the pairs.
 #[cycle(node)]
 fn push_pairs(out: &mut Vec<u8>, pairs: &[(TermTree, TermTree)]) -> Result<(), NoMemory>
-    ensures { OnOk result (out.new.items ≡ out.old.items ++ with_commas (map shown_pair pairs.now)) }
+    ensures { OnOk result
+        (out.new.items ≡ out.old.items ++ with_commas (map shown_pair pairs.now)) }
 {
     let mut first = true;
     for pair in pairs {
         push_separator(out, first)?;
         push_node(out, &pair.0)?;
-        push_text(out, b" => ")?;
+        push_bytes(out, b" => ")?;
         push_node(out, &pair.1)?;
         first = false;
     }
@@ -84,7 +85,7 @@ pub fn push_node(out: &mut Vec<u8>, node: &TermTree) -> Result<(), NoMemory>
         TermTree::Int(number) => push_integer(out, *number),
         TermTree::Atom(atom) => push_atom(out, atom.as_slice()),
         TermTree::Bin(bytes) => push_binary(out, bytes.as_slice()),
-        TermTree::Nil => push_text(out, b"[]"),
+        TermTree::Nil => push_bytes(out, b"[]"),
         TermTree::List(parts, tail) => {
             push_byte(out, b'[')?;
             push_parts(out, parts.as_slice())?;
@@ -97,16 +98,16 @@ pub fn push_node(out: &mut Vec<u8>, node: &TermTree) -> Result<(), NoMemory>
             push_byte(out, b'}')
         }
         TermTree::Map(pairs) => {
-            push_text(out, b"#{")?;
+            push_bytes(out, b"#{")?;
             push_pairs(out, pairs.as_slice())?;
             push_byte(out, b'}')
         }
         TermTree::Closure(origin, env) => {
-            push_text(out, b"#fun{")?;
+            push_bytes(out, b"#fun{")?;
             push_origin(out, origin)?;
             push_byte(out, b'[')?;
             push_parts(out, env.as_slice())?;
-            push_text(out, b"]}")
+            push_bytes(out, b"]}")
         }
     }
 }

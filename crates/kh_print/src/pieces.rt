@@ -1,26 +1,10 @@
 //! Small texts at the end of a buffer.
-ghost use Rattle.std.specs.Prelude.{◌≡◌, ◌<◌, ◌++◌, ◌∷◌, [], OnOk, decimal, false};
+ghost use Rattle.std.specs.Prelude.{◌≡◌, ◌<◌, ◌++◌, OnOk, decimal, false};
 ghost use Rattle.std.specs.Fmt.{digits, digit_glyph};
 ghost use Rattle.kh_print.specs.Parts.{separator};
 
 use itoa::Buffer;
-use kh_term::NoMemory;
-
-// Adds these bytes.
-pub fn push_text(out: &mut Vec<u8>, text: &[u8]) -> Result<(), NoMemory>
-    ensures { OnOk result (out.new.items ≡ out.old.items ++ text.now) }
-{
-    out.extend_from_slice(text)?;
-    Ok(())
-}
-
-// Adds one byte.
-pub fn push_byte(out: &mut Vec<u8>, byte: u8) -> Result<(), NoMemory>
-    ensures { OnOk result (out.new.items ≡ out.old.items ++ byte ∷ []) }
-{
-    out.push(byte)?;
-    Ok(())
-}
+use kh_term::{NoMemory, push_byte, push_bytes};
 
 // Adds the comma between two parts, where there was a part before.
 pub fn push_separator(out: &mut Vec<u8>, first: bool) -> Result<(), NoMemory>
@@ -37,7 +21,7 @@ pub fn push_decimal(out: &mut Vec<u8>, number: u8) -> Result<(), NoMemory>
     ensures { OnOk result (out.new.items ≡ out.old.items ++ decimal number) }
 {
     let mut buffer = Buffer::new();
-    push_text(out, buffer.format(number).as_bytes())
+    push_bytes(out, buffer.format(number).as_bytes())
 }
 
 // A hexadecimal digit, in lower case.

@@ -1,7 +1,8 @@
 use Rattle.std.proofs.Common.{◌++◌, codes, decimal, refl}
 use Rattle.kh_text_defs.specs.Shown.{shown_atom}
 use Rattle.kh_print.specs.Parts.{shown_origin}
-use Rattle.kh_print.proofs.InTurn.{joined, closed, read_as}
+use Rattle.kh_term.proofs.InTurn.{joined, closed}
+use Rattle.kh_print.proofs.Joined.{read_as}
 use Rattle.kh_print.proofs.node.push_origin.Goals as goal
 
 pub returns : goal.returns
