@@ -3,11 +3,11 @@ ghost use Rattle.std.specs.Prelude.{◌≡◌, ◌<◌, IfOk};
 ghost use Rattle.kh_term.specs.declared.tree.TermTree.TheVariants as tree;
 
 use crate::{
-    Atom, Bytes, Closure, Kind, Name, Names, NoMemory, NodeView, Origin, Pairs, Path, Paths, Steps,
-    Term, Terms, Text, Texts, atom, bin, closure, compare, copy_of, copy_of_all, copy_of_pairs,
-    depth, holds_closure, int, is_small, list, list_with_tail, map, map_of_one, name_of, names_of,
-    nil, origin_of, origin_term, packed_len, pair, pairs_of, path_of, path_term, place_of_key,
-    size, triple, tuple, value_of_key, widest,
+    Atom, Bytes, Closure, Kind, Name, NoMemory, NodeView, Origin, Pairs, Path, Steps, Term, Terms,
+    Text, Texts, atom, bin, closure, compare, copy_of, copy_of_all, copy_of_pairs, depth,
+    holds_closure, int, is_large, is_small, list, list_with_tail, map, map_of_one, name_of,
+    names_of, nil, origin_of, origin_term, packed_len, pair, pairs_of, path_of, path_term,
+    place_of_key, size, triple, tuple, value_of_key, widest,
 };
 use std::alloc::Global;
 use std::cmp::Ordering;
@@ -69,67 +69,92 @@ fn pairs(alloc: Global, all: &[(i128, i128)]) -> Result<Term, NoMemory> {
     Ok(map(pairs))
 }
 
-fn small_terms(alloc: Global, all: &mut Vec<Term>) -> Result<(), NoMemory> {
-    for number in [-170141183460469231731687303715884105728, -1, 0, 7] {
-        all.push(int(number))?;
-    }
-    for text in ["", "a", "aa", "b"] {
-        all.push(atom(word(alloc, text.as_bytes())?))?;
-    }
-    all.push(function(alloc, b"m", b"f", 0, &[])?)?;
-    all.push(function(alloc, b"m", b"f", 2, &[])?)?;
-    all.push(function(alloc, b"m", b"f", 2, &[5])?)?;
-    all.push(function(alloc, b"m", b"f", 2, &[5, 1])?)?;
-    all.push(function(alloc, b"m", b"g", 0, &[])?)?;
-    all.push(function(alloc, b"n", b"a", 0, &[])?)?;
-    Ok(())
+// A term by its parts, all of which are numbers.
+#[derive(Clone, Copy)]
+enum Sample {
+    Int(i128),
+    Atom(&'static [u8]),
+    // module, name, arity and captured values
+    Fun(&'static [u8], &'static [u8], u8, &'static [i128]),
+    Tuple(&'static [i128]),
+    Map(&'static [(i128, i128)]),
+    // a list in front of another
+    List(&'static [i128], &'static [i128]),
+    // a list and a tail that is none
+    Number(&'static [i128], i128),
+    Text(&'static [i128], &'static [u8]),
+    Bin(&'static [u8]),
 }
 
-fn composed_terms(alloc: Global, all: &mut Vec<Term>) -> Result<(), NoMemory> {
-    for parts in [
-        [].as_slice(),
-        [9].as_slice(),
-        [1, 1].as_slice(),
-        [1, 2].as_slice(),
-    ] {
-        all.push(tuple(numbers(alloc, parts)?))?;
+fn built(alloc: Global, sample: Sample) -> Result<Term, NoMemory> {
+    match sample {
+        Sample::Int(number) => Ok(int(number)),
+        Sample::Atom(text) => Ok(atom(word(alloc, text)?)),
+        Sample::Fun(module, name, arity, env) => function(alloc, module, name, arity, env),
+        Sample::Tuple(parts) => Ok(tuple(numbers(alloc, parts)?)),
+        Sample::Map(all) => pairs(alloc, all),
+        Sample::List(front, more) => {
+            let tail = list(alloc, numbers(alloc, more)?)?;
+            list_with_tail(alloc, numbers(alloc, front)?, tail)
+        }
+        Sample::Number(front, tail) => list_with_tail(alloc, numbers(alloc, front)?, int(tail)),
+        Sample::Text(front, tail) => {
+            let tail = bytes(alloc, tail)?;
+            list_with_tail(alloc, numbers(alloc, front)?, tail)
+        }
+        Sample::Bin(text) => bytes(alloc, text),
     }
-    all.push(pairs(alloc, &[])?)?;
-    all.push(pairs(alloc, &[(1, 9)])?)?;
-    all.push(map_of_one(alloc, int(2), int(1))?)?;
-    all.push(pairs(alloc, &[(2, 3)])?)?;
-    all.push(pairs(alloc, &[(1, 5), (2, 4)])?)?;
-    all.push(pairs(alloc, &[(1, 5), (3, 0)])?)?;
-    Ok(())
 }
 
-fn long_terms(alloc: Global, all: &mut Vec<Term>) -> Result<(), NoMemory> {
-    all.push(nil())?;
-    all.push(list_with_tail(alloc, numbers(alloc, &[1])?, int(0))?)?;
-    all.push(list(alloc, numbers(alloc, &[1])?)?)?;
-    let more = list(alloc, numbers(alloc, &[2])?)?;
-    all.push(list_with_tail(alloc, numbers(alloc, &[1])?, more)?)?;
-    all.push(list_with_tail(alloc, numbers(alloc, &[1])?, bytes(alloc, b"")?)?)?;
-    all.push(list(alloc, numbers(alloc, &[2])?)?)?;
-    for text in ["", "\0", "\0\0", "a"] {
-        all.push(bytes(alloc, text.as_bytes())?)?;
-    }
-    Ok(())
-}
+// Terms, each above the one before it.
+const IN_ORDER: [Sample; 34] = [
+    Sample::Int(-170141183460469231731687303715884105728),
+    Sample::Int(-1),
+    Sample::Int(0),
+    Sample::Int(7),
+    Sample::Atom(b""),
+    Sample::Atom(b"a"),
+    Sample::Atom(b"aa"),
+    Sample::Atom(b"b"),
+    Sample::Fun(b"m", b"f", 0, &[]),
+    Sample::Fun(b"m", b"f", 2, &[]),
+    Sample::Fun(b"m", b"f", 2, &[5]),
+    Sample::Fun(b"m", b"f", 2, &[5, 1]),
+    Sample::Fun(b"m", b"g", 0, &[]),
+    Sample::Fun(b"n", b"a", 0, &[]),
+    Sample::Tuple(&[]),
+    Sample::Tuple(&[9]),
+    Sample::Tuple(&[1, 1]),
+    Sample::Tuple(&[1, 2]),
+    Sample::Map(&[]),
+    Sample::Map(&[(1, 9)]),
+    Sample::Map(&[(2, 1)]),
+    Sample::Map(&[(2, 3)]),
+    Sample::Map(&[(1, 5), (2, 4)]),
+    Sample::Map(&[(1, 5), (3, 0)]),
+    Sample::List(&[], &[]),
+    Sample::Number(&[1], 0),
+    Sample::List(&[1], &[]),
+    Sample::List(&[1], &[2]),
+    Sample::Text(&[1], b""),
+    Sample::List(&[], &[2]),
+    Sample::Bin(b""),
+    Sample::Bin(b"\0"),
+    Sample::Bin(b"\0\0"),
+    Sample::Bin(b"a"),
+];
 
 #[test]
 fn terms_stand_in_order(rt: HostRuntime) -> Result<(), Fail> {
     let mut all = Vec::new(rt.alloc());
-    small_terms(rt.alloc(), &mut all)?;
-    composed_terms(rt.alloc(), &mut all)?;
-    long_terms(rt.alloc(), &mut all)?;
-    assert_eq!(rt; all.len(), 34);
+    for sample in IN_ORDER {
+        all.push(built(rt.alloc(), sample)?)?;
+    }
     for (i, x) in all.iter().enumerate() {
         for (j, y) in all.iter().enumerate() {
             assert_eq!(rt; compare(x, y), i.cmp(&j), "at {i} and {j}");
         }
-        let copy = x.copy(rt.alloc())?;
-        assert_eq!(rt; compare(&copy, x), Ordering::Equal, "at {i}");
+        assert!(rt; x.copy(rt.alloc())? == *x, "at {i}");
     }
     Ok(())
 }
@@ -154,18 +179,15 @@ fn path(alloc: Global, names: &[&'static str]) -> Result<Path, NoMemory> {
 fn paths_are_keys(rt: HostRuntime) -> Result<(), Fail> {
     let alloc = rt.alloc();
     let mut kept = BTreeMap::new(alloc);
-    kept.insert(path(alloc, &["a"])?, 1u8)?;
-    kept.insert(path(alloc, &["a", "b"])?, 2)?;
-    kept.insert(path(alloc, &[])?, 3)?;
+    let rows: [(&[&'static str], u8); 3] = [(&["a"], 1), (&["a", "b"], 2), (&[], 3)];
+    for (names, number) in rows {
+        kept.insert(path(alloc, names)?, number)?;
+    }
     let key = path(alloc, &["a", "b"])?;
-    assert_eq!(rt; kept.get(&key.copy(alloc)?).copied(), Some(2));
-    let term = path_term(alloc, &key)?;
-    assert_eq!(rt; widest(&term), 3);
-    let mut paths = Paths::new(alloc);
-    paths.push(key)?;
-    assert_eq!(rt; paths.len(), 1);
-    assert!(rt; path(alloc, &["."]).is_err());
-    assert!(rt; path(alloc, &[""]).is_err());
+    assert_eq!(rt; kept.get(&key).copied(), Some(2));
+    for name in [".", "^", ""] {
+        assert!(rt; path(alloc, &[name]).is_err(), "at {name}");
+    }
     Ok(())
 }
 
@@ -191,40 +213,34 @@ fn keys_are_found(rt: HostRuntime) -> Result<(), Fail> {
     let alloc = rt.alloc();
     let mut pairs = odd_keys(alloc)?;
     assert_eq!(rt; pairs.push(int(5), nil())?, false);
-    assert_eq!(rt; pairs.len(), 3);
     assert_eq!(rt; place_of_key(pairs.as_slice(), &int(3)), Ok(1));
     assert_eq!(rt; place_of_key(pairs.as_slice(), &int(4)), Err(2));
-    assert_eq!(rt;
-        compare(&found(alloc, &pairs, 5)?, &int(6)),
-        Ordering::Equal
-    );
-    assert_eq!(rt; compare(&found(alloc, &pairs, 0)?, &nil()), Ordering::Equal);
+    for (key, value) in [(5, int(6)), (0, nil())] {
+        assert!(rt; found(alloc, &pairs, key)? == value, "at {key}");
+    }
     Ok(())
 }
 
 #[test]
-fn lists_are_copied(rt: HostRuntime) -> Result<(), Fail> {
-    let alloc = rt.alloc();
-    let pairs = odd_keys(alloc)?;
-    let copied = map(copy_of_pairs(alloc, pairs.as_slice())?);
-    assert_eq!(rt; compare(&copied, &map(pairs.copy(alloc)?)), Ordering::Equal);
-    let parts = numbers(alloc, &[1, 2])?;
-    let copied = tuple(copy_of_all(alloc, parts.as_slice())?);
-    assert_eq!(rt;
-        compare(&copied, &tuple(parts.copy(alloc)?)),
-        Ordering::Equal
-    );
-    let mut texts = Texts::new(alloc);
-    if let Some(text) = Text::new(Vec::from_slice(alloc, b"x")?) {
-        texts.push(text.copy(alloc)?)?;
-    }
-    assert_eq!(rt; texts.len(), 1);
+fn pairs_are_copied(rt: HostRuntime) -> Result<(), Fail> {
+    let pairs = odd_keys(rt.alloc())?;
+    let copied = map(copy_of_pairs(rt.alloc(), pairs.as_slice())?);
+    assert!(rt; copied == map(pairs.copy(rt.alloc())?));
+    Ok(())
+}
+
+#[test]
+fn parts_are_copied(rt: HostRuntime) -> Result<(), Fail> {
+    let parts = numbers(rt.alloc(), &[1, 2])?;
+    let copied = tuple(copy_of_all(rt.alloc(), parts.as_slice())?);
+    assert!(rt; copied == tuple(parts.copy(rt.alloc())?));
+    assert!(rt; parts.get(1).is_some() && parts.get(2).is_none());
     Ok(())
 }
 
 #[test]
 #[tactic(auto, using(crate::proofs::Layers::sizes, crate::proofs::Layers::depths, crate::proofs::Lengths::lengths))]
-fn terms_are_measured(rt: HostRuntime) -> Result<(), Fail> {
+fn binaries_are_measured(rt: HostRuntime) -> Result<(), Fail> {
     let rows = [
         ("", 1, 5),
         ("1234567", 2, 12),
@@ -237,6 +253,12 @@ fn terms_are_measured(rt: HostRuntime) -> Result<(), Fail> {
         assert_eq!(rt; depth(&term), 0, "at {text}");
         assert_eq!(rt; packed_len(&term), packed, "at {text}");
     }
+    Ok(())
+}
+
+#[test]
+#[tactic(auto, using(crate::proofs::Layers::sizes, crate::proofs::Layers::depths, crate::proofs::Lengths::lengths))]
+fn flat_terms_are_measured(rt: HostRuntime) {
     assert_eq!(rt; size(&nil()), 1);
     assert_eq!(rt; depth(&nil()), 1);
     assert_eq!(rt; packed_len(&nil()), 1);
@@ -249,7 +271,6 @@ fn terms_are_measured(rt: HostRuntime) -> Result<(), Fail> {
     ] {
         assert_eq!(rt; packed_len(&int(number)), packed, "at {number}");
     }
-    Ok(())
 }
 
 #[test]
@@ -269,11 +290,7 @@ fn the_last_of_equal_keys_counts(rt: HostRuntime) -> Result<(), Fail> {
             all.push((int(*key), int(*value)))?;
         }
         let found = map(pairs_of(alloc, all)?);
-        assert_eq!(rt;
-            compare(&found, &pairs(alloc, kept)?),
-            Ordering::Equal,
-            "at {given:?}"
-        );
+        assert!(rt; found == pairs(alloc, kept)?, "at {given:?}");
     }
     Ok(())
 }
@@ -281,7 +298,7 @@ fn the_last_of_equal_keys_counts(rt: HostRuntime) -> Result<(), Fail> {
 // Whether a function is read from its term and made into it again.
 fn is_read_again(alloc: Global, term: &Term) -> Result<bool, NoMemory> {
     match Closure::of_term(alloc, term)? {
-        Some(found) => Ok(compare(&found.copy(alloc)?.into_term(), term).is_eq()),
+        Some(found) => Ok(found.copy(alloc)?.into_term() == *term),
         None => Ok(false),
     }
 }
@@ -303,11 +320,16 @@ fn functions_are_read_and_measured(rt: HostRuntime) -> Result<(), Fail> {
         let term = function(alloc, module.as_bytes(), name.as_bytes(), 2, &[7])?;
         assert_eq!(rt; widest(&term), width, "at {module}");
         assert!(rt; is_read_again(alloc, &term)?);
-        assert!(rt; holds_closure(&term));
         assert!(rt; holds_closure(&map_of_one(alloc, term, nil())?));
     }
-    assert!(rt; !holds_closure(&tuple(numbers(alloc, &[1])?)));
-    assert!(rt; Closure::of_term(alloc, &nil())?.is_none());
+    Ok(())
+}
+
+#[test]
+fn no_function_is_found(rt: HostRuntime) -> Result<(), Fail> {
+    let term = built(rt.alloc(), Sample::Tuple(&[1]))?;
+    assert!(rt; !holds_closure(&term));
+    assert!(rt; Closure::of_term(rt.alloc(), &term)?.is_none());
     Ok(())
 }
 
@@ -328,26 +350,39 @@ fn origins_are_read_again(rt: HostRuntime) -> Result<(), Fail> {
 }
 
 #[test]
-fn terms_stand_for_names(rt: HostRuntime) -> Result<(), Fail> {
-    let alloc = rt.alloc();
-    let key = path(alloc, &["a", "b"])?;
-    let term = path_term(alloc, &key)?;
-    assert!(rt; path_of(alloc, &term.node)?.ok_or("no path")? == key);
-    let elements = [int(1), atom(word(alloc, b".")?), bytes(alloc, b"")?];
-    for element in elements {
-        assert!(rt; name_of(alloc, &element.node)?.is_none());
-        let mut parts = Terms::new(alloc);
-        parts.push(element)?;
-        assert!(rt; names_of(alloc, parts.as_slice())?.is_none());
-        assert!(rt; path_of(alloc, &list(alloc, parts)?.node)?.is_none());
+fn a_path_is_read_again(rt: HostRuntime) -> Result<(), Fail> {
+    let key = path(rt.alloc(), &["a", "b"])?;
+    let term = path_term(rt.alloc(), &key)?;
+    assert!(rt; path_of(rt.alloc(), &term.node)?.ok_or("no path")? == key);
+    Ok(())
+}
+
+// Whether neither a term nor the list of it stands for names.
+fn is_no_name(alloc: Global, term: Term) -> Result<bool, NoMemory> {
+    let none = name_of(alloc, &term.node)?.is_none();
+    let mut parts = Terms::new(alloc);
+    parts.push(term)?;
+    let no_names = names_of(alloc, parts.as_slice())?.is_none();
+    Ok(none && no_names && path_of(alloc, &list(alloc, parts)?.node)?.is_none())
+}
+
+#[test]
+fn terms_stand_for_no_names(rt: HostRuntime) -> Result<(), Fail> {
+    for sample in [Sample::Int(1), Sample::Atom(b"."), Sample::Bin(b"")] {
+        let term = built(rt.alloc(), sample)?;
+        assert!(rt; is_no_name(rt.alloc(), term)?);
     }
-    for parts in [[1, 2].as_slice(), [1, 2, 3].as_slice()] {
-        let parts = numbers(alloc, parts)?;
-        assert!(rt; parts.get(2).is_some() == (parts.len() == 3));
-        assert!(rt; origin_of(alloc, &tuple(parts).node)?.is_none());
+    for sample in [Sample::Tuple(&[1, 2]), Sample::Tuple(&[1, 2, 3])] {
+        let term = built(rt.alloc(), sample)?;
+        assert!(rt; origin_of(rt.alloc(), &term.node)?.is_none());
     }
-    let two = pair(alloc, int(1), nil())?;
-    let three = triple(alloc, crate::word(alloc, "ok")?, nil(), nil())?;
+    Ok(())
+}
+
+#[test]
+fn small_tuples_are_made(rt: HostRuntime) -> Result<(), Fail> {
+    let two = pair(rt.alloc(), int(1), nil())?;
+    let three = triple(rt.alloc(), crate::word(rt.alloc(), "ok")?, nil(), nil())?;
     assert_eq!(rt; compare(&two, &three), Ordering::Less);
     Ok(())
 }
@@ -357,12 +392,17 @@ fn names_are_hashed(rt: HostRuntime) -> Result<(), Fail> {
     let alloc = rt.alloc();
     let mut counts = HashMap::new(alloc);
     for text in ["a", "b", "a"] {
-        let name = Name::Atom(word(alloc, text.as_bytes())?);
-        counts.insert(name, text.len())?;
-        let name = Name::Bin(Bytes::new(Vec::from_slice(alloc, text.as_bytes())?));
-        counts.insert(name, text.len())?;
+        counts.insert(Name::Atom(word(alloc, text.as_bytes())?), 1u8)?;
+        let bytes = Vec::from_slice(alloc, text.as_bytes())?;
+        counts.insert(Name::Bin(Bytes::new(bytes)), 2)?;
     }
     assert_eq!(rt; counts.len(), 4);
+    Ok(())
+}
+
+#[test]
+fn origins_are_hashed(rt: HostRuntime) -> Result<(), Fail> {
+    let alloc = rt.alloc();
     let mut origins = HashMap::new(alloc);
     for arity in [1, 2, 1] {
         let module = word(alloc, b"m")?;
@@ -400,38 +440,43 @@ fn wide(alloc: Global, count: u32) -> Result<Term, NoMemory> {
 
 #[test]
 fn limits_are_tested(rt: HostRuntime) -> Result<(), Fail> {
-    let alloc = rt.alloc();
-    assert!(rt; is_small(&nested(alloc, 200)?));
-    assert!(rt; !is_small(&nested(alloc, 201)?));
-    assert!(rt; is_small(&wide(alloc, 1_048_575)?));
-    assert!(rt; !is_small(&wide(alloc, 1_048_576)?));
+    for (levels, small) in [(200, true), (201, false)] {
+        assert_eq!(rt; is_small(&nested(rt.alloc(), levels)?), small);
+    }
+    for (parts, large) in [(1_048_575, false), (1_048_576, true)] {
+        let term = wide(rt.alloc(), parts)?;
+        assert_eq!(rt; is_small(&term), !large);
+        assert_eq!(rt; is_large(&term), large);
+    }
     Ok(())
 }
 
+// What a node shows that holds this datum.
+fn view(datum: i128) -> NodeView {
+    NodeView {
+        name: None,
+        payload: Kind::Data,
+        datum: Some(int(datum)),
+        payload_version: 1,
+        child_list_version: 1,
+        children: 0,
+    }
+}
+
 #[test]
-fn views_are_compared(rt: HostRuntime) -> Result<(), Fail> {
-    let alloc = rt.alloc();
-    let mut views = Vec::new(alloc);
-    for number in [1, 2] {
-        views.push(NodeView {
-            name: None,
-            payload: Kind::Data,
-            datum: Some(int(number)),
-            payload_version: 1,
-            child_list_version: 1,
-            children: 0,
-        })?;
+fn views_are_compared(rt: HostRuntime) {
+    for (datum, same) in [(1, true), (2, false)] {
+        assert_eq!(rt; view(datum).is_same(&view(1)), same);
     }
-    for (i, a) in views.iter().enumerate() {
-        for (j, b) in views.iter().enumerate() {
-            assert_eq!(rt; a.is_same(b), i == j);
-        }
-    }
-    let text = Text::new(Vec::from_slice(alloc, b"x")?).ok_or("no text")?;
+}
+
+#[test]
+fn texts_are_kept(rt: HostRuntime) -> Result<(), Fail> {
+    let text = Text::new(Vec::from_slice(rt.alloc(), b"x")?).ok_or("no text")?;
+    let mut texts = Texts::new(rt.alloc());
+    texts.push(text.copy(rt.alloc())?)?;
+    assert_eq!(rt; Texts::from_vec(texts.into_vec()).len(), 1);
     assert_eq!(rt; text.as_str(), "x");
-    let mut names = Names::new(alloc);
-    names.push(Name::Atom(word(alloc, b"a")?))?;
-    assert_eq!(rt; Names::from_vec(names.into_vec()).len(), 1);
     Ok(())
 }
 
