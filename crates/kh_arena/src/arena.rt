@@ -159,7 +159,8 @@ impl<T: Copy> Arena<T> {
         requires { length (items self.old) < most_items }
         ensures place { IfOk result (λ place. place ≡ length (items self.old)) }
         ensures appended { OnOk result (items self.new ≡ items self.old ++ item ∷ []) }
-        ensures stays { OnOk result (take (length (items self.old)) (spots self.new) ≡ spots self.old) }
+        ensures stays { OnOk result
+            (take (length (items self.old)) (spots self.new) ≡ spots self.old) }
         ensures spare { OnOk result (spare self.old ≤ spare self.new + 1) }
         ensures reserved { 0 < spare self.old → IsOk result }
         ensures refused { OnErr result (self.new ≡ self.old) }
@@ -174,7 +175,8 @@ impl<T: Copy> Arena<T> {
     pub fn get(&self, i: u32) -> &T
         requires { i < length (items self.now) }
         ensures item { slice_get (items self.now) i ≡ Some result.now }
-        ensures there { option_map (address (type_size T.row)) (slice_get (spots self.now) i) ≡ Some result.ref_ptr }
+        ensures there { option_map (address (type_size T.row))
+            (slice_get (spots self.now) i) ≡ Some result.ref_ptr }
     {
         let (chunk, offset) = locate(i);
         self.chunks[chunk].get(offset)
