@@ -1,0 +1,4 @@
+pub mod Parts
+pub mod Heap
+pub mod View
+pub mod Cells
