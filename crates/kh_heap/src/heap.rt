@@ -148,7 +148,8 @@ impl Heap {
     ) -> Result<Ref, HeapError>
         requires room { length self.old < most_cells }
         requires below { first + count ≤ length self.old }
-        requires measured { Measured size depth (tree.Closure origin.now (run_at self.old first count)) }
+        requires measured { Measured size depth
+            (tree.Closure origin.now (run_at self.old first count)) }
         ensures place { IfOk result (λ r. r ≡ length self.old) }
         ensures added { OnOk result
             (self.new ≡ self.old ++ tree.Closure origin.now (run_at self.old first count) ∷ []) }

@@ -67,7 +67,8 @@ impl Heap {
     pub fn tuple(&mut self, items: &[Ref]) -> Result<Ref, HeapError>
         requires room { length self.old + length items.now + 1 < most_cells }
         requires held { HoldsAll self.old items.now }
-        ensures term { IfOk result (λ r. Stands self.new r (tree.Tuple (terms_at self.old items.now))) }
+        ensures term { IfOk result
+            (λ r. Stands self.new r (tree.Tuple (terms_at self.old items.now))) }
         ensures limits { Limits result (tree.Tuple (terms_at self.old items.now)) }
         ensures grew { Grew self.old self.new }
         ensures cells { length self.new ≤ length self.old + length items.now + 1 }
@@ -88,7 +89,8 @@ impl Heap {
         requires room { length self.old + 2 * length pairs.now + 1 < most_cells }
         requires held { HoldsPairs self.old pairs.now }
         requires rising { IsTrue (keys_rise (map (λ p. p.0) (pairs_at self.old pairs.now))) }
-        ensures term { IfOk result (λ r. Stands self.new r (tree.Map (pairs_at self.old pairs.now))) }
+        ensures term { IfOk result
+            (λ r. Stands self.new r (tree.Map (pairs_at self.old pairs.now))) }
         ensures limits { Limits result (tree.Map (pairs_at self.old pairs.now)) }
         ensures grew { Grew self.old self.new }
         ensures cells { length self.new ≤ length self.old + 2 * length pairs.now + 1 }
@@ -151,7 +153,8 @@ impl Heap {
         requires room { length self.old + length items.now + 1 < most_cells }
         requires held { HoldsAll self.old items.now }
         requires measured { Measured size depth (tree.Tuple (terms_at self.old items.now)) }
-        ensures term { IfOk result (λ r. Stands self.new r (tree.Tuple (terms_at self.old items.now))) }
+        ensures term { IfOk result
+            (λ r. Stands self.new r (tree.Tuple (terms_at self.old items.now))) }
         ensures cause { IfErr result (λ e. e ≡ NoMemory) }
         ensures grew { Grew self.old self.new }
         ensures cells { OnOk result (length self.new ≤ length self.old + length items.now + 1) }
@@ -165,7 +168,8 @@ impl Heap {
         requires room { length self.old + 2 * length pairs.now + 1 < most_cells }
         requires held { HoldsPairs self.old pairs.now }
         requires measured { Measured size depth (tree.Map (pairs_at self.old pairs.now)) }
-        ensures term { IfOk result (λ r. Stands self.new r (tree.Map (pairs_at self.old pairs.now))) }
+        ensures term { IfOk result
+            (λ r. Stands self.new r (tree.Map (pairs_at self.old pairs.now))) }
         ensures cause { IfErr result (λ e. e ≡ NoMemory) }
         ensures grew { Grew self.old self.new }
         ensures cells { OnOk result (length self.new ≤ length self.old + 2 * length pairs.now + 1) }
@@ -184,7 +188,8 @@ impl Heap {
     ) -> Result<Ref, HeapError>
         requires room { length self.old + length env.now + 1 < most_cells }
         requires held { HoldsAll self.old env.now }
-        requires measured { Measured size depth (tree.Closure origin.now (terms_at self.old env.now)) }
+        requires measured { Measured size depth
+            (tree.Closure origin.now (terms_at self.old env.now)) }
         ensures term { IfOk result
             (λ r. Stands self.new r (tree.Closure origin.now (terms_at self.old env.now))) }
         ensures cause { IfErr result (λ e. e ≡ NoMemory) }

@@ -146,7 +146,8 @@ impl Heap {
         requires held { Holds self.now r }
         requires within { i < length (parts_in (term_at self.now r)) }
         ensures held { Holds self.now result }
-        ensures part { term_at self.now result ≡ slice_index_or (parts_in (term_at self.now r)) i tree.Nil }
+        ensures part { term_at self.now result
+            ≡ slice_index_or (parts_in (term_at self.now r)) i tree.Nil }
         ensures before { result < r }
     {
         let kind = self.cells.get(r.place).kind;
