@@ -1,0 +1,5 @@
+mod Reversed
+mod Marks
+mod Laying
+pub mod Ends
+pub mod Blind
