@@ -10,8 +10,8 @@ use Rattle.kh_frames.specs.Rules.{Answer, bad_code, past_limit, becomes, answere
 use Rattle.kh_frames.specs.Renamed.{rename_slot, rename_catch, rename_call, rename_waiting, rename_calls, rename_pending, rename, rename_lead, RulesAreBlind}
 use Rattle.kh_frames.specs.declared.state.Slot.{Slot}
 use Rattle.kh_frames.specs.declared.state.Slot.TheVariants.{Absent, Holds, Marked}
-use Rattle.kh_frames.specs.declared.given.Reg.{Reg}
-use Rattle.kh_frames.specs.declared.given.Reg.TheVariants.{X, Y}
+use Rattle.kh_instr.specs.declared.operand.Reg.{Reg}
+use Rattle.kh_instr.specs.declared.operand.Reg.TheVariants.{X, Y}
 use Rattle.kh_term.specs.declared.kinds.Class.{Class}
 
 -- what comes of a rule, changed

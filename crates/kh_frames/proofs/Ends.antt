@@ -64,8 +64,11 @@ module _ {V : Type 0} where
       let rest = read_alike xs ys (ends_behind x xs e) (ends_behind y ys f) (λ n. same (suc n)) in
       λ i. same 0 i ∷ rest i
 
+  abbrev nothing : Option V
+  nothing = None
+
   -- absent registers behind the others change none
-  register_of_absent : (n m : ℕ) → register (replicate n (None {A = V})) m ≡ None
+  register_of_absent : (n m : ℕ) → register (replicate n nothing) m ≡ None
   register_of_absent zero m = refl
   register_of_absent (suc n) zero = refl
   register_of_absent (suc n) (suc m) = register_of_absent n m
@@ -78,7 +81,7 @@ module _ {V : Type 0} where
   pub registers_are_maps : RegistersAreMaps V
   registers_are_maps = record {
     read_back = λ xs n v. get_or-set_same (xs ++ replicate (n + 1 - length xs) None) n (Some v) None
-        (let long = length-append xs (replicate (n + 1 - length xs) None) in let many = length-replicate (n + 1 - length xs) (None {A = V}) in omega (arith, long, many));
+        (let long = length-append xs (replicate (n + 1 - length xs) None) in let many = length-replicate (n + 1 - length xs) nothing in omega (arith, long, many));
     others = λ xs n m v other. get_or-set_other (xs ++ replicate (n + 1 - length xs) None) n m (Some v) None other ∙ register_before xs (n + 1 - length xs) m;
     ends = ends_after;
     equal = read_alike;

@@ -19,7 +19,7 @@ use Rattle.kh_frames.specs.declared.state.Place.{Place}
 use Rattle.kh_frames.specs.declared.state.Extent.{Extent}
 use Rattle.kh_frames.specs.declared.state.Mark.{Mark}
 use Rattle.kh_frames.specs.declared.state.Waiting.{Waiting}
-use Rattle.kh_frames.specs.declared.given.Ref.{Ref}
+use Rattle.kh_heap.specs.declared.reference.Ref.{Ref}
 
 abbrev Slots : Type 0
 Slots = List (Slot Ref)

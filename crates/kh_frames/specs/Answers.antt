@@ -3,8 +3,8 @@ use Rattle.std.specs.Prelude.{◌≡◌, Some, None}
 use Rattle.std.specs.declared.option.Option.{Option}
 use Rattle.std.specs.declared.result.Result.{Result}
 use Rattle.std.specs.declared.result.Result.TheVariants.{Ok, Err}
-use Rattle.kh_frames.specs.declared.given.Reg.{Reg}
-use Rattle.kh_frames.specs.declared.given.Reg.TheVariants.{X, Y}
+use Rattle.kh_instr.specs.declared.operand.Reg.{Reg}
+use Rattle.kh_instr.specs.declared.operand.Reg.TheVariants.{X, Y}
 use Rattle.kh_frames.specs.Rules.{Answer, bad_code, past_limit, becomes}
 use Rattle.kh_frames.specs.declared.error.FrameError.{FrameError}
 use Rattle.kh_frames.specs.declared.error.FrameError.TheVariants.{BadCode, Limit, NoMemory}

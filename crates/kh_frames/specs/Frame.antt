@@ -9,9 +9,13 @@ module _ {V : Type 0} where
   abbrev pub register : List (Option V) → ℕ → Option V
   register xs n = slice_index_or xs n None
 
-  -- the registers with a value in register n; those below it that weren't there are absent
+  -- the registers up to n at least; those that weren't there are absent
+  abbrev pub grown : List (Option V) → ℕ → List (Option V)
+  grown xs n = xs ++ replicate (n + 1 - length xs) None
+
+  -- the registers with a value in register n
   abbrev pub written : List (Option V) → ℕ → V → List (Option V)
-  written xs n v = slice_set (xs ++ replicate (n + 1 - length xs) None) n (Some v)
+  written xs n v = slice_set (grown xs n) n (Some v)
 
   -- the slots of a frame; none without a frame
   abbrev pub slots : Option (List (Slot V)) → List (Slot V)

@@ -6,7 +6,7 @@ use Rattle.kh_frames.specs.State.{Call, Calls, State}
 use Rattle.kh_frames.specs.Rules.{Answer, answered, on_calls, fetched, stored, suspended, resumed_to, unframed, allocated, deallocated, trimmed, caught, ended, raised, settled}
 use Rattle.kh_frames.specs.declared.state.Slot.{Slot}
 use Rattle.kh_frames.specs.declared.state.Slot.TheVariants.{Absent, Holds, Marked}
-use Rattle.kh_frames.specs.declared.given.Reg.{Reg}
+use Rattle.kh_instr.specs.declared.operand.Reg.{Reg}
 use Rattle.kh_term.specs.declared.kinds.Class.{Class}
 
 module _ {V W P Q : Type 0} (value : V → W) (place : P → Q) where

@@ -7,8 +7,8 @@ use Rattle.kh_frames.specs.Frame.{register, written, slots, held, is_free, is_ma
 use Rattle.kh_frames.specs.State.{Call, Calls, State}
 use Rattle.kh_frames.specs.declared.state.Slot.{Slot}
 use Rattle.kh_frames.specs.declared.state.Slot.TheVariants.{Absent, Holds, Marked}
-use Rattle.kh_frames.specs.declared.given.Reg.{Reg}
-use Rattle.kh_frames.specs.declared.given.Reg.TheVariants.{X, Y}
+use Rattle.kh_instr.specs.declared.operand.Reg.{Reg}
+use Rattle.kh_instr.specs.declared.operand.Reg.TheVariants.{X, Y}
 use Rattle.kh_term.specs.declared.kinds.Class.{Class}
 
 -- what a rule says: the code is bad, the limit would be passed, or this comes of it
@@ -152,6 +152,10 @@ module _ {V P : Type 0} where
   abbrev pub settled : State V P → State V P
   settled s = record { registers = s.registers; calls = s.calls; pending = None }
 
-  -- every register absent, no frame, nothing that waits, no catch and nothing pending
+  -- one call without a frame
+  abbrev pub one_call : Calls V P
+  one_call = record { running = record { frame = None; catches = [] }; waiting = [] }
+
+  -- every register absent, one call without a frame, and nothing pending
   abbrev pub begun : State V P
-  begun = record { registers = []; calls = record { running = record { frame = None; catches = [] }; waiting = [] }; pending = None }
+  begun = record { registers = []; calls = one_call; pending = None }

@@ -2,15 +2,15 @@
 ghost use Rattle.std.specs.Prelude.{◌≡◌, ◌^◌, ◌<◌, ◌≤◌, ◌+◌, [], not, is_some, take, length, Some, None};
 ghost use Rattle.std.specs.List.{list_any};
 ghost use Rattle.kh_frames.specs.Frame.{is_free, is_mark, is_marked, is_empty, newest_slot};
-ghost use Rattle.kh_frames.specs.Rules.{slot_of, has_room, suspended, goes_on, resumed, unframed, allocated, deallocated, trimmed, caught, ended, filled, unwound, taken};
+ghost use Rattle.kh_frames.specs.Rules.{slot_of, has_room, suspended, goes_on, resumed, unframed, allocated, deallocated, trimmed, caught, ended, filled, unwound, taken, one_call};
 ghost use Rattle.kh_frames.specs.Stored.{size};
 ghost use Rattle.kh_frames.specs.Valid.{IsTied, AreTied, IsWithin};
 ghost use Rattle.kh_frames.specs.Answers.{Written, Judged, Led, Resumed};
 
 use crate::error::FrameError;
-use crate::given::Ref;
 use crate::stack::Stack;
 use crate::state::{Extent, Mark, Place, Slot, Waiting};
+use kh_heap::Ref;
 use std::alloc::Global;
 use std::marker::Model;
 
@@ -27,7 +27,7 @@ pub(crate) struct CallStack {
 
 impl Model for CallStack {
     ghost use Rattle.kh_frames.specs.State.{Calls};
-    ghost use Rattle.kh_frames.specs.declared.given.Ref.{Ref};
+    ghost use Rattle.kh_heap.specs.declared.reference.Ref.{Ref};
     ghost use Rattle.kh_frames.specs.declared.state.Place.{Place};
     ghost use Rattle.kh_frames.specs.Stored.{calls_of, Fits};
 
@@ -73,7 +73,7 @@ fn any_marked(slots: &Stack<Slot<Ref>>, n: usize) -> bool
 
 impl CallStack {
     pub(crate) fn new(alloc: Global) -> CallStack
-        ensures { result ≡ record { running = record { frame = None; catches = [] }; waiting = [] } }
+        ensures { result ≡ one_call }
     {
         CallStack {
             running: Extent {

@@ -6,9 +6,10 @@ ghost use Rattle.kh_frames.specs.Answers.{Written, WrittenAt, Judged, Fetched, L
 
 use crate::calls::CallStack;
 use crate::error::FrameError;
-use crate::given::{Ref, Reg};
 use crate::registers::Registers;
 use crate::state::{Place, Slot};
+use kh_heap::Ref;
+use kh_instr::Reg;
 use kh_term::{Class, NoMemory};
 use std::alloc::Global;
 use std::marker::Model;
@@ -23,7 +24,7 @@ pub struct Frames {
 
 impl Model for Frames {
     ghost use Rattle.kh_frames.specs.State.{State};
-    ghost use Rattle.kh_frames.specs.declared.given.Ref.{Ref};
+    ghost use Rattle.kh_heap.specs.declared.reference.Ref.{Ref};
     ghost use Rattle.kh_frames.specs.declared.state.Place.{Place};
 
     ghost Value = { State Ref Place };

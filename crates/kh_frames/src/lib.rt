@@ -9,7 +9,6 @@
 mod calls;
 mod error;
 mod frames;
-mod given;
 mod laws;
 mod registers;
 mod stack;
@@ -19,6 +18,5 @@ mod tests;
 
 pub use error::FrameError;
 pub use frames::Frames;
-pub use given::{Ref, Reg};
 pub use laws::{registers_are_maps, rules_are_blind};
 pub use state::{Place, Slot};

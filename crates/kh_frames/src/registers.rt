@@ -1,9 +1,9 @@
 // The x registers: each written or absent, the last one written.
-ghost use Rattle.std.specs.Prelude.{◌≡◌, ◌<◌, ◌^◌, ◌+◌, ◌-◌, ◌++◌, OnOk, OnErr, [], None, true, length, replicate};
-ghost use Rattle.kh_frames.specs.Frame.{register, written};
+ghost use Rattle.std.specs.Prelude.{◌≡◌, ◌<◌, ◌^◌, OnOk, OnErr, [], true};
+ghost use Rattle.kh_frames.specs.Frame.{register, grown, written};
 ghost use Rattle.kh_frames.specs.Valid.{ends_written};
 
-use crate::given::Ref;
+use kh_heap::Ref;
 use kh_term::NoMemory;
 use std::alloc::Global;
 use std::marker::Model;
@@ -16,7 +16,7 @@ pub(crate) struct Registers {
 impl Model for Registers {
     ghost use Rattle.std.specs.Prelude.{◌≡◌, List, true};
     ghost use Rattle.std.specs.declared.option.Option.{Option};
-    ghost use Rattle.kh_frames.specs.declared.given.Ref.{Ref};
+    ghost use Rattle.kh_heap.specs.declared.reference.Ref.{Ref};
     ghost use Rattle.kh_frames.specs.Valid.{ends_written};
 
     ghost Value = { List (Option Ref) };
@@ -29,7 +29,7 @@ impl Model for Registers {
 // Sees to it that there is a place n; those that are added are absent.
 fn provide(items: &mut Vec<Option<Ref>>, n: usize) -> Result<(), NoMemory>
     requires { n < 2 ^ 32 }
-    ensures provided { OnOk result (items.new.items ≡ items.old.items ++ replicate (n + 1 - length items.old.items) None) }
+    ensures provided { OnOk result (items.new.items ≡ grown items.old.items n) }
     ensures refused { OnErr result (items.new.items ≡ items.old.items) }
 {
     if n >= items.len() {

@@ -1,6 +1,8 @@
 // What each call answers, in tables, and how long many calls take. Run them too with an allocation refused.
 use crate::FrameError::{BadCode, Limit};
-use crate::{FrameError, Frames, Place, Ref, Reg, registers_are_maps, rules_are_blind};
+use crate::{FrameError, Frames, Place, registers_are_maps, rules_are_blind};
+use kh_heap::{Heap, Ref};
+use kh_instr::Reg;
 use kh_term::Class;
 use std::alloc::Global;
 use std::process::Abort;
@@ -140,11 +142,11 @@ fn answer_to(frames: &mut Frames, values: &Values, call: Call) -> Result<Answer,
     }
 }
 
-fn values(_alloc: Global) -> Result<Values, Fail> {
-    Ok(Values {
-        a: Ref { place: 1 },
-        b: Ref { place: 2 },
-    })
+fn values(alloc: Global) -> Result<Values, Fail> {
+    let mut heap = Heap::new(alloc);
+    let a = heap.int(1)?;
+    let b = heap.int(2)?;
+    Ok(Values { a, b })
 }
 
 fn passes(rt: &impl Abort, alloc: Global, rows: &[Row]) -> Result<(), Fail> {

@@ -2,7 +2,7 @@ use Rattle.std.proofs.Common.{subst}
 use Rattle.kh_frames.specs.State.{Calls}
 use Rattle.kh_frames.specs.Valid.{IsTied, AreTied, IsWithin}
 use Rattle.kh_frames.specs.declared.state.Place.{Place}
-use Rattle.kh_frames.specs.declared.given.Ref.{Ref}
+use Rattle.kh_heap.specs.declared.reference.Ref.{Ref}
 use Rattle.kh_frames.proofs.Laying.{fits_within}
 use Rattle.kh_frames.proofs.calls.CallStack.check.Goals as goal
 
