@@ -142,7 +142,7 @@ fn answer_to(frames: &mut Frames, values: &Values, call: Call) -> Result<Answer,
     }
 }
 
-fn values(alloc: Global) -> Result<Values, Fail> {
+fn two_values(alloc: Global) -> Result<Values, Fail> {
     let mut heap = Heap::new(alloc);
     let a = heap.int(1)?;
     let b = heap.int(2)?;
@@ -150,7 +150,7 @@ fn values(alloc: Global) -> Result<Values, Fail> {
 }
 
 fn passes(rt: &impl Abort, alloc: Global, rows: &[Row]) -> Result<(), Fail> {
-    let values = values(alloc)?;
+    let values = two_values(alloc)?;
     let mut frames = Frames::new(alloc)?;
     for (i, (call, answer)) in rows.iter().enumerate() {
         assert_eq!(rt; answer_to(&mut frames, &values, *call), *answer, "row {i}");
@@ -397,7 +397,7 @@ fn round(rt: &impl Abort, frames: &mut Frames, v: Ref) -> Result<(), FrameError>
 
 #[test]
 fn ten_million_calls_come_and_go(rt: HostRuntime) -> Result<(), Fail> {
-    let values = values(rt.alloc())?;
+    let values = two_values(rt.alloc())?;
     let mut frames = Frames::new(rt.alloc())?;
     for _ in 0..10_000_000 {
         round(&rt, &mut frames, values.a)?;
