@@ -1,5 +1,5 @@
 -- What the definitions over conditions say of each row.
-use Rattle.std.proofs.Common.{◌≡◌, ◌<◌, ℕ, suc, ◌+◌, Bool, true, false, not, List, [], ◌∷◌, ◌++◌, codes, map, sum, length, get_or, drop, Option, Some, None, is_some, refl, ap, sym, ◌∙◌, add-one, drop-cons, arith}
+use Rattle.std.proofs.Common.{◌≡◌, ◌<◌, ℕ, suc, ◌+◌, Bool, true, false, not, List, [], ◌∷◌, ◌++◌, codes, map, sum, length, get_or, drop, Option, Some, None, is_some, refl, ap, sym, ◌∙◌, add-one, drop-cons}
 use Rattle.std.specs.List.{list_all, list_any, flat_map}
 use Rattle.kh_term.specs.declared.name.Name.{Name}
 use Rattle.kh_term.specs.declared.term.Term.{Term}

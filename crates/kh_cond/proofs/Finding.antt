@@ -1,5 +1,5 @@
 -- The first that passes a test.
-use Rattle.std.proofs.Common.{◌≡◌, ◌<◌, ◌+◌, ℕ, Bool, cond, List, length, get_or, drop, Option, Some, add-one, drop-cons}
+use Rattle.std.proofs.Common.{◌≡◌, ◌<◌, ◌+◌, ℕ, Bool, cond, List, length, get_or, drop, Some, add-one, drop-cons}
 use Rattle.std.specs.List.{find}
 
 pub find_next : {A : Type 0} (p : A → Bool) (xs : List A) (i : ℕ) (d : A) → i < length xs →

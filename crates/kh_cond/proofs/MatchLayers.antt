@@ -1,6 +1,5 @@
 -- What matching says of each kind of pattern.
-use Rattle.std.proofs.Common.{◌≡◌, ℕ, suc, ◌||◌, ◌&&◌, Bool, true, false, nat_eq, List, [], ◌∷◌, length, map, codes, refl, ap, sym, ◌∙◌, ℤ}
-use Rattle.std.specs.Ordering.{nat_cmp}
+use Rattle.std.proofs.Common.{◌≡◌, ℕ, suc, ◌||◌, Bool, List, [], ◌∷◌, length, map, codes, refl, ap, sym, ◌∙◌, ℤ}
 use Rattle.std.specs.Str.{bytes_eq}
 use Rattle.kh_term.specs.declared.name.Origin.{Origin}
 use Rattle.kh_term.specs.declared.tree.TermTree.{TermTree, out-TermTree}
@@ -8,7 +7,7 @@ use Rattle.kh_term.specs.declared.tree.TermTree.TheVariants as tree
 use Rattle.kh_term.specs.declared.tree.TermTree.TheVariants.{rolls-Int, rolls-Atom, rolls-Bin, rolls-Nil, rolls-List, rolls-Tuple, rolls-Map, rolls-Closure}
 use Rattle.kh_term.specs.declared.tree.TermTree.TheOpen as layer
 use Rattle.kh_term.specs.declared.tree.TermTree.TheFolds.{para-roll-TermTree}
-use Rattle.kh_cond.specs.Matching.{matches_data, matched, matched_pair, Part, match_step, int_match, text_match, bin_match, nil_match, list_match, tuple_match, map_match, closure_match}
+use Rattle.kh_cond.specs.Matching.{matches_data, matched, matched_pair, match_step, int_match, text_match, bin_match, nil_match, list_match, tuple_match, map_match, closure_match}
 
 -- the terms beside the results are the terms
 terms_of : {B : Type 0} (f : TermTree → B) (xs : List TermTree) → map {A = TermTree × B} {B = TermTree} (λ p. p.0) (map (λ y. (y, f y)) xs) ≡ xs

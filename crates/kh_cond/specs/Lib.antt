@@ -1,7 +1,12 @@
+pub mod Exact
+pub mod Faults
 pub mod Forms
 pub mod Holds
+pub mod Laws
 pub mod Matching
+pub mod Reading
 pub mod Short
 pub mod Spells
 pub mod Texts
+pub mod Wildcards
 pub mod Words

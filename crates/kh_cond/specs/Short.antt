@@ -1,5 +1,5 @@
 -- The short spelling of conditions and patterns, with regular expressions as binaries and each comparison as it was read.
-use Rattle.std.specs.Prelude.{ℕ, List, [], ◌∷◌, map, codes}
+use Rattle.std.specs.Prelude.{List, ◌∷◌, map, codes}
 use Rattle.kh_term.specs.declared.tree.TermTree.{TermTree}
 use Rattle.kh_term.specs.declared.tree.TermTree.TheVariants as tree
 use Rattle.kh_term.specs.Make.{list_of, name_tree}

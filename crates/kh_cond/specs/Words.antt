@@ -1,8 +1,10 @@
 -- The words with which conditions begin.
-use Rattle.std.specs.Prelude.{ℕ, List, [], ◌∷◌, Option, Some, None, codes, find}
+use Rattle.std.specs.Prelude.{ℕ, List, [], ◌∷◌, Option, codes, find}
 use Rattle.std.specs.Str.{bytes_eq}
 use Rattle.kh_cond.specs.declared.words.Word.{Word}
 use Rattle.kh_cond.specs.declared.words.Word.TheVariants as word
+use Rattle.kh_cond.specs.declared.words.Shape.{Shape}
+use Rattle.kh_cond.specs.declared.words.Shape.TheVariants as shape
 use Rattle.kh_cond.specs.declared.cond.Operator.{Operator}
 use Rattle.kh_cond.specs.declared.cond.Operator.TheVariants as operator
 use Rattle.kh_cond.specs.Forms.{operator_word}
@@ -22,6 +24,13 @@ word_text word.ChildListLength = codes "if_child_list_length"
 word_text word.Not = codes "if_not"
 word_text word.All = codes "if_all"
 word_text word.Any = codes "if_any"
+
+-- what a word makes of its operand
+abbrev pub shape_of : Word → Shape
+shape_of word.Not = shape.Not
+shape_of word.All = shape.All
+shape_of word.Any = shape.Any
+shape_of w = shape.Row w
 
 abbrev pub all_words : List Word
 all_words =

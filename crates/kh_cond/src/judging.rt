@@ -57,7 +57,8 @@ fn all_hold<P: Patterns>(
     patterns: &mut P,
 ) -> Result<bool, NoMemory>
     requires { sum (map (lacking (P.texts patterns.old)) parts.now) ≡ 0 }
-    ensures holds { IfOk result (λ b. b ≡ list_all (holds P.search (option_copied view.entry)) parts.now) }
+    ensures holds { IfOk result (λ b.
+        b ≡ list_all (holds P.search (option_copied view.entry)) parts.now) }
     ensures engine { Stand (P.texts patterns.old, P.refusals patterns.old, P.refused patterns.old)
         (P.texts patterns.new, P.refusals patterns.new, P.refused patterns.new) }
 {
@@ -77,7 +78,8 @@ fn any_holds<P: Patterns>(
     patterns: &mut P,
 ) -> Result<bool, NoMemory>
     requires { sum (map (lacking (P.texts patterns.old)) parts.now) ≡ 0 }
-    ensures holds { IfOk result (λ b. b ≡ list_any (holds P.search (option_copied view.entry)) parts.now) }
+    ensures holds { IfOk result (λ b.
+        b ≡ list_any (holds P.search (option_copied view.entry)) parts.now) }
     ensures engine { Stand (P.texts patterns.old, P.refusals patterns.old, P.refused patterns.old)
         (P.texts patterns.new, P.refusals patterns.new, P.refused patterns.new) }
 {

@@ -12,8 +12,10 @@ use kh_term::{Text, Texts};
 #[tactic(auto, using(crate::proofs::Known::preparing))]
 pub fn prepare<P: Patterns>(texts: &Texts, patterns: &mut P) -> Result<(), PrepareError>
     requires { length (P.texts patterns.old) + length texts.now < 2 ^ 32 }
-    ensures texts { MatchPrepared result (P.texts patterns.new ≡ P.texts patterns.old ++ added (P.texts patterns.old) texts.now)
-        (P.texts patterns.new ≡ P.texts patterns.old) (P.texts patterns.new ≡ P.texts patterns.old) }
+    ensures texts { MatchPrepared result
+        (P.texts patterns.new ≡ P.texts patterns.old ++ added (P.texts patterns.old) texts.now)
+        (P.texts patterns.new ≡ P.texts patterns.old)
+        (P.texts patterns.new ≡ P.texts patterns.old) }
     ensures refusals { MatchPrepared result (P.refusals patterns.new ≡ P.refusals patterns.old)
         (Rose (P.refusals patterns.old) (P.refusals patterns.new))
         (P.refusals patterns.new ≡ P.refusals patterns.old) }
@@ -43,14 +45,17 @@ pub fn prepare<P: Patterns>(texts: &Texts, patterns: &mut P) -> Result<(), Prepa
 #[tactic(auto, using(crate::proofs::Known::known))]
 fn prepare_one<P: Patterns>(text: &Text, patterns: &mut P) -> Result<(), PrepareError>
     requires { length (P.texts patterns.old) < 2 ^ 32 - 1 }
-    ensures texts { MatchPrepared result (P.texts patterns.new ≡ with_text (P.texts patterns.old) text.now)
-        (P.texts patterns.new ≡ P.texts patterns.old) (P.texts patterns.new ≡ P.texts patterns.old) }
+    ensures texts { MatchPrepared result
+        (P.texts patterns.new ≡ with_text (P.texts patterns.old) text.now)
+        (P.texts patterns.new ≡ P.texts patterns.old)
+        (P.texts patterns.new ≡ P.texts patterns.old) }
     ensures refusals { MatchPrepared result (P.refusals patterns.new ≡ P.refusals patterns.old)
         (Rose (P.refusals patterns.old) (P.refusals patterns.new))
         (P.refusals patterns.new ≡ P.refusals patterns.old) }
     ensures refused { MatchPrepared result (P.refused patterns.new ≡ P.refused patterns.old)
         (P.refused patterns.new ≡ Some text.now) (P.refused patterns.new ≡ P.refused patterns.old) }
-    ensures unknown { MatchPrepared result (Unit {0}) (is_known (P.texts patterns.old) text.now ≡ false) (Unit {0}) }
+    ensures unknown { MatchPrepared result (Unit {0})
+        (is_known (P.texts patterns.old) text.now ≡ false) (Unit {0}) }
     ensures never_falls { P.refusals patterns.old ≤ P.refusals patterns.new }
 {
     match patterns.find(text.as_str()) {

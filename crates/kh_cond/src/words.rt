@@ -2,7 +2,7 @@
 ghost use Rattle.std.specs.Prelude.{◌≡◌, ◌≤◌, length};
 ghost use Rattle.std.specs.List.{find};
 ghost use Rattle.std.specs.Str.{bytes_eq};
-ghost use Rattle.kh_cond.specs.Words.{word_of, word_text, operator_of};
+ghost use Rattle.kh_cond.specs.Words.{word_of, word_text, shape_of, operator_of};
 ghost use Rattle.kh_cond.specs.Forms.{operator_word};
 
 use crate::cond::Operator;
@@ -57,6 +57,37 @@ fn word_among(text: &[u8], words: &[Word]) -> Option<Word>
         }
     }
     None
+}
+
+/// What a word makes of its operand.
+#[derive(Clone, Copy, Debug, PartialEq, Eq, Drop)]
+pub enum Shape {
+    Not,
+    All,
+    Any,
+    /// A condition on the node itself.
+    Row(Word),
+}
+
+/// The shape of a word.
+pub fn shape_of(word: Word) -> Shape
+    ensures { result ≡ shape_of word }
+{
+    match word {
+        Word::Not => Shape::Not,
+        Word::All => Shape::All,
+        Word::Any => Shape::Any,
+        Word::NodeExists
+        | Word::NameMatches
+        | Word::PathMatches
+        | Word::HasPayload
+        | Word::HasData
+        | Word::HasSproc
+        | Word::DataMatches
+        | Word::PayloadVersion
+        | Word::ChildListVersion
+        | Word::ChildListLength => Shape::Row(word),
+    }
 }
 
 /// The text of a word.

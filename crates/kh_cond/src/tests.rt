@@ -1,0 +1,349 @@
+//! Conditions by tables that were written by hand.
+ghost use Rattle.std.specs.Prelude.{◌≡◌, length};
+
+use crate::{
+    Comparison, Cond, CondError, Exact, Operator, Regex, cond_term, judge, matches_data,
+    pattern_term, prepare, push_cond_texts, read_cond, read_pattern,
+};
+use kh_regexes::{Patterns, PlainPatterns, RegexPatterns};
+use kh_term::{
+    Atom, Bytes, Kind, Name, NoMemory, NodeView, Term, Terms, Text, Texts, atom, bin, compare, int,
+    list, list_with_tail, map_of_one, nil, pair, tuple,
+};
+use sqlite_items::{Boxed, Items};
+use std::alloc::Global;
+use std::process::Abort;
+use std::test::Fail;
+
+fn word(alloc: Global, text: &str) -> Result<Atom, NoMemory> {
+    match Atom::new(Vec::from_slice(alloc, text.as_bytes())?) {
+        Some(word) => Ok(word),
+        None => Err(NoMemory),
+    }
+}
+
+fn name_matches(alloc: Global, text: &str) -> Result<Cond, NoMemory> {
+    match Text::new(Vec::from_slice(alloc, text.as_bytes())?) {
+        Some(text) => Ok(Cond::NameMatches(Regex::Text(text))),
+        None => Err(NoMemory),
+    }
+}
+
+// The root, a node without a payload, one with the data 7 and one with a procedure, the three named `oak`.
+fn view(alloc: Global, which: usize) -> Result<NodeView, NoMemory> {
+    let name = match which {
+        0 => None,
+        _ => Some(Name::Atom(word(alloc, "oak")?)),
+    };
+    let (payload, datum) = match which {
+        2 => (Kind::Data, Some(int(7))),
+        3 => (Kind::Sproc, None),
+        _ => (Kind::Empty, None),
+    };
+    Ok(NodeView {
+        name,
+        payload,
+        datum,
+        payload_version: 3,
+        child_list_version: 1,
+        children: 0,
+    })
+}
+
+// Whether each row holds of a missing node and of the four views.
+const ROWS: [&str; 18] = [
+    "-++++", "+----", "--+++", "-++++", "--+++", "-+---", "-----", "---++", "-++--", "---+-",
+    "----+", "-+++-", "---+-", "---+-", "+----", "+++++", "-----", "-++++",
+];
+
+fn row(alloc: Global, at: usize) -> Result<Cond, NoMemory> {
+    match at {
+        0 => Ok(Cond::NodeExists(true)),
+        1 => Ok(Cond::NodeExists(false)),
+        2 => Ok(Cond::Name(Name::Atom(word(alloc, "oak")?))),
+        3 => Ok(Cond::NameMatches(Regex::Any)),
+        4 => name_matches(alloc, "^oa"),
+        5 => name_matches(alloc, "^$"),
+        6 => Ok(Cond::PathMatches(Regex::Any)),
+        7 => Ok(Cond::HasPayload(true)),
+        8 => Ok(Cond::HasPayload(false)),
+        9 => Ok(Cond::HasData(true)),
+        10 => Ok(Cond::HasSproc(true)),
+        11 => Ok(Cond::HasSproc(false)),
+        12 => Ok(Cond::DataMatches(int(7))),
+        13 => Ok(Cond::DataMatches(atom(word(alloc, "_")?))),
+        14 => Ok(Cond::Not(Boxed::new(alloc, Cond::NodeExists(true))?)),
+        15 => Ok(Cond::All(Items::new(alloc))),
+        16 => Ok(Cond::Any(Items::new(alloc))),
+        _ => Ok(Cond::ChildListLength(Comparison::By(Operator::Less, i128::MAX))),
+    }
+}
+
+// What a condition is judged on a missing node or on one of the four views.
+#[tactic(auto, using(crate::proofs::Prepared::prepared))]
+fn judged<P: Patterns>(
+    alloc: Global,
+    cond: &Cond,
+    patterns: &mut P,
+    which: usize,
+) -> Result<bool, Fail>
+    requires { length (P.texts patterns.old) ≡ 0 }
+{
+    let mut texts = Texts::new(alloc);
+    push_cond_texts(alloc, cond, &mut texts)?;
+    if texts.len() > 64 {
+        return Err(NoMemory.into());
+    }
+    prepare(&texts, patterns)?;
+    if which == 0 {
+        return Ok(judge(cond, None, patterns)?);
+    }
+    let view = view(alloc, which - 1)?;
+    Ok(judge(cond, Some(&view), patterns)?)
+}
+
+#[test]
+fn rows_are_judged(rt: HostRuntime) -> Result<(), Fail> {
+    for (at, wanted) in ROWS.iter().enumerate() {
+        let cond = row(rt.alloc(), at)?;
+        for (which, holds) in wanted.as_bytes().iter().enumerate() {
+            let mut patterns = RegexPatterns::new(rt.alloc())?;
+            let found = judged(rt.alloc(), &cond, &mut patterns, which)?;
+            assert_eq!(rt; found, *holds == b'+', "row {at}, view {which}");
+        }
+    }
+    let mut patterns = PlainPatterns::new(rt.alloc(), Vec::new(rt.alloc()))?;
+    let in_name = name_matches(rt.alloc(), "ak")?;
+    assert_eq!(rt; judged(rt.alloc(), &in_name, &mut patterns, 2)?, true);
+    Ok(())
+}
+
+#[test]
+fn numbers_are_compared(rt: HostRuntime) -> Result<(), Fail> {
+    for (operator, wanted) in [
+        (Operator::Equal, "-+-"),
+        (Operator::NotEqual, "+-+"),
+        (Operator::Less, "--+"),
+        (Operator::AtMost, "-++"),
+        (Operator::Greater, "+--"),
+        (Operator::AtLeast, "++-"),
+    ] {
+        for (at, holds) in wanted.as_bytes().iter().enumerate() {
+            let cond = Cond::PayloadVersion(Comparison::By(operator, at as i128 + 2));
+            let mut patterns = PlainPatterns::new(rt.alloc(), Vec::new(rt.alloc()))?;
+            let found = judged(rt.alloc(), &cond, &mut patterns, 1)?;
+            assert_eq!(rt; found, *holds == b'+', "{wanted} at {at}");
+        }
+    }
+    Ok(())
+}
+
+fn bytes(alloc: Global, bytes: &[u8]) -> Result<Term, NoMemory> {
+    Ok(bin(Bytes::new(Vec::from_slice(alloc, bytes)?)))
+}
+
+fn repeated(alloc: Global, count: usize) -> Result<Term, NoMemory> {
+    let mut all = Vec::new(alloc);
+    for _ in 0..count {
+        all.push(b'a')?;
+    }
+    Ok(bin(Bytes::new(all)))
+}
+
+fn numbers(alloc: Global, all: &[i128]) -> Result<Terms, NoMemory> {
+    let mut terms = Terms::new(alloc);
+    for number in all {
+        terms.push(int(*number))?;
+    }
+    Ok(terms)
+}
+
+// The operands of the table of conditions.
+fn operand(alloc: Global, at: u8) -> Result<Term, NoMemory> {
+    match at {
+        0 => Ok(atom(word(alloc, "true")?)),
+        1 => Ok(int(1)),
+        2 => pair(alloc, atom(word(alloc, "gt")?), int(-3)),
+        3 => pair(alloc, atom(word(alloc, "in")?), int(1)),
+        4 => list_with_tail(alloc, numbers(alloc, &[97])?, int(98)),
+        5 => list(alloc, numbers(alloc, &[0x61, 0xe9, 0x20ac, 0x1f600])?),
+        6 => list(alloc, numbers(alloc, &[0xd800])?),
+        7 => bytes(alloc, b"\xff"),
+        8 => repeated(alloc, 4096),
+        9 => repeated(alloc, 4097),
+        _ => Ok(nil()),
+    }
+}
+
+const CONDITIONS: [(&str, u8, bool); 15] = [
+    ("if_node_exists", 0, true),
+    ("if_node_exists", 1, false),
+    ("if_payload_version", 1, true),
+    ("if_payload_version", 2, true),
+    ("if_child_list_length", 3, false),
+    ("if_all", 4, false),
+    ("if_any", 10, true),
+    ("if_name_matches", 4, false),
+    ("if_name_matches", 5, true),
+    ("if_name_matches", 6, false),
+    ("if_name_matches", 7, false),
+    ("if_name_matches", 8, true),
+    ("if_name_matches", 9, false),
+    ("if_name_matches", 10, true),
+    ("if_path_matches", 5, false),
+];
+
+// A term is read where it is a condition, and written in a short spelling that is read as the same.
+fn is_read(alloc: Global, term: &Term) -> Result<bool, Fail> {
+    match read_cond(alloc, term) {
+        Ok(cond) => {
+            let short = cond_term(alloc, &cond)?;
+            let again = read_cond(alloc, &short).map_err(|_| NoMemory)?;
+            let again = cond_term(alloc, &again)?;
+            Ok(compare(&short, &again).is_eq())
+        }
+        Err(CondError::BadCondition(1)) => Ok(false),
+        Err(_) => Err(NoMemory.into()),
+    }
+}
+
+#[test]
+fn conditions_are_read(rt: HostRuntime) -> Result<(), Fail> {
+    for (name, at, wanted) in CONDITIONS {
+        let term = pair(
+            rt.alloc(),
+            atom(word(rt.alloc(), name)?),
+            operand(rt.alloc(), at)?,
+        )?;
+        assert_eq!(rt; is_read(rt.alloc(), &term)?, wanted, "{name} {at}");
+    }
+    for (name, wanted) in [("a", true), (".", false), ("^", false), ("", false)] {
+        let term = atom(word(rt.alloc(), name)?);
+        assert_eq!(rt; is_read(rt.alloc(), &term)?, wanted, "{name}");
+    }
+    for (count, wanted) in [(0, false), (255, true), (256, false)] {
+        let term = repeated(rt.alloc(), count)?;
+        assert_eq!(rt; is_read(rt.alloc(), &term)?, wanted, "{count}");
+    }
+    Ok(())
+}
+
+// A list of so many names, with a number at one place.
+fn components(alloc: Global, count: usize, wrong: usize) -> Result<Term, NoMemory> {
+    let mut terms = Terms::new(alloc);
+    for at in 0..count {
+        if at == wrong {
+            terms.push(int(1))?;
+        } else {
+            terms.push(atom(word(alloc, "a")?))?;
+        }
+    }
+    list(alloc, terms)
+}
+
+// The number at fault in a pattern; of one that is read, 1,000 and the number of names of its target.
+fn number_of(alloc: Global, term: &Term) -> Result<usize, Fail> {
+    match read_pattern(alloc, term) {
+        Ok(pattern) => {
+            let short = pattern_term(alloc, &pattern)?;
+            match Exact::new(pattern) {
+                Some(exact) if compare(&short, term).is_eq() => {
+                    Ok(1000 + exact.target(alloc)?.names().len())
+                }
+                _ => Ok(0),
+            }
+        }
+        Err(CondError::BadCondition(at)) => Ok(at as usize),
+        Err(CondError::NoMemory) => Err(NoMemory.into()),
+    }
+}
+
+#[test]
+fn patterns_are_read(rt: HostRuntime) -> Result<(), Fail> {
+    for (count, wrong, number) in [
+        (0, 99, 1000),
+        (32, 99, 1032),
+        (33, 99, 33),
+        (33, 4, 5),
+        (3, 0, 1),
+        (40, 34, 33),
+    ] {
+        let term = components(rt.alloc(), count, wrong)?;
+        assert_eq!(rt; number_of(rt.alloc(), &term)?, number, "{count} {wrong}");
+    }
+    assert_eq!(rt; number_of(rt.alloc(), &int(1))?, 0);
+    let improper = list_with_tail(rt.alloc(), numbers(rt.alloc(), &[97])?, int(98))?;
+    assert_eq!(rt; number_of(rt.alloc(), &improper)?, 0);
+    Ok(())
+}
+
+// The terms of the table of data patterns; a 0 is the atom `_`.
+fn term(alloc: Global, kind: char, parts: &[i128]) -> Result<Term, NoMemory> {
+    let mut terms = Terms::new(alloc);
+    for part in parts {
+        terms.push(part_term(alloc, *part)?)?;
+    }
+    match kind {
+        't' => Ok(tuple(terms)),
+        'l' => list(alloc, terms),
+        'i' => list_with_tail(alloc, terms, int(5)),
+        'k' => map_of_one(alloc, atom(word(alloc, "_")?), tuple(terms)),
+        'v' => map_of_one(alloc, int(1), tuple(terms)),
+        _ => list_with_tail(alloc, terms, atom(word(alloc, "_")?)),
+    }
+}
+
+fn part_term(alloc: Global, part: i128) -> Result<Term, NoMemory> {
+    if part == 0 {
+        return Ok(atom(word(alloc, "_")?));
+    }
+    Ok(int(part))
+}
+
+#[test]
+fn data_match(rt: HostRuntime) -> Result<(), Fail> {
+    let rows: [(char, &[i128], char, &[i128], bool); 10] = [
+        ('t', &[0, 7], 't', &[1, 7], true),
+        ('t', &[0, 7], 't', &[1, 8], false),
+        ('v', &[0], 'v', &[3], true),
+        ('k', &[1], 'v', &[1], false),
+        ('k', &[1], 'k', &[1], true),
+        ('a', &[1], 'l', &[1], true),
+        ('a', &[1], 'l', &[1, 2], true),
+        ('a', &[1], 'i', &[1], true),
+        ('a', &[1], 'l', &[], false),
+        ('l', &[1, 2], 'l', &[1], false),
+    ];
+    for (at, (kind, pattern, other, datum, wanted)) in rows.iter().enumerate() {
+        let pattern = term(rt.alloc(), *kind, pattern)?;
+        let datum = term(rt.alloc(), *other, datum)?;
+        assert_eq!(rt; matches_data(&pattern, &datum), *wanted, "row {at}");
+    }
+    Ok(())
+}
+
+// The texts `a`, `b`, `a` and `c`.
+fn four_texts(alloc: Global) -> Result<Texts, NoMemory> {
+    let mut parts = Items::new(alloc);
+    for text in ["a", "b", "a", "c"] {
+        parts.push(name_matches(alloc, text)?)?;
+    }
+    let mut texts = Texts::new(alloc);
+    push_cond_texts(alloc, &Cond::Any(parts), &mut texts)?;
+    Ok(texts)
+}
+
+#[test]
+fn texts_are_prepared_once(rt: HostRuntime) -> Result<(), Fail> {
+    let texts = four_texts(rt.alloc())?;
+    for refused in 1..4 {
+        let listed = [refused].to_vec(rt.alloc())?;
+        let mut patterns = PlainPatterns::new(rt.alloc(), listed)?;
+        assert_eq!(rt; patterns.prepare("b"), Ok(()));
+        assert!(rt; texts.len() < 100 && patterns.count() < 100);
+        let answer = prepare(&texts, &mut patterns);
+        assert_eq!(rt; answer.is_ok(), refused > 2);
+        assert_eq!(rt; patterns.count(), if refused > 2 { 3 } else { 1 });
+    }
+    Ok(())
+}
