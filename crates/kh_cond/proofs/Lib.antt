@@ -14,4 +14,6 @@ pub mod Prepared
 mod ReadLayers
 mod Sound
 mod Targets
+mod WatchLaws
+mod Watches
 mod WildLaws

@@ -12,6 +12,7 @@ use Rattle.kh_cond.specs.Matching.{matches_data}
 use Rattle.kh_cond.specs.Wildcards.{has_wildcard}
 use Rattle.kh_cond.specs.Short.{cond_tree, pattern_tree}
 use Rattle.kh_cond.specs.Spells.{SpellsCond, SpellsPattern}
+use Rattle.kh_cond.specs.Watched.{Watched, SpellsWatching, watching_tree}
 
 -- `if_not` turns each judgement round.
 abbrev pub NotTurns : Type 0
@@ -57,3 +58,11 @@ PatternSpellsAtMostOne = (t : TermTree) (p q : List Component) → SpellsPattern
 -- The short spelling of a pattern that a term spells is a spelling of it.
 abbrev pub ShortPatternIsSpelling : Type 0
 ShortPatternIsSpelling = (t : TermTree) (q : List Component) → SpellsPattern t q → SpellsPattern (pattern_tree q) q
+
+-- A term spells at most one list of watched paths.
+abbrev pub WatchingSpellsAtMostOne : Type 0
+WatchingSpellsAtMostOne = (t : TermTree) (p q : List (Watched × Cond)) → SpellsWatching t p → SpellsWatching t q → p ≡ q
+
+-- The short spelling of watched paths that a term spells is a spelling of them.
+abbrev pub ShortWatchingIsSpelling : Type 0
+ShortWatchingIsSpelling = (t : TermTree) (ws : List (Watched × Cond)) → SpellsWatching t ws → SpellsWatching (watching_tree ws) ws

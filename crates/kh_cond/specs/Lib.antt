@@ -8,5 +8,6 @@ pub mod Reading
 pub mod Short
 pub mod Spells
 pub mod Texts
+pub mod Watched
 pub mod Wildcards
 pub mod Words

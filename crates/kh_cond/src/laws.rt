@@ -1,5 +1,5 @@
 //! The laws of conditions: what a clause states of every one. The functions have no code.
-ghost use Rattle.kh_cond.specs.Laws.{NotTurns, EmptyAllHolds, EmptyAnyFails, MissingNeedsNoSearch, UnderscoreMatchesAll, PlainPatternMatchesOne, EachMatchesItself, SpellsAtMostOne, ShortIsSpelling, PatternSpellsAtMostOne, ShortPatternIsSpelling};
+ghost use Rattle.kh_cond.specs.Laws.{NotTurns, EmptyAllHolds, EmptyAnyFails, MissingNeedsNoSearch, UnderscoreMatchesAll, PlainPatternMatchesOne, EachMatchesItself, SpellsAtMostOne, ShortIsSpelling, PatternSpellsAtMostOne, ShortPatternIsSpelling, WatchingSpellsAtMostOne, ShortWatchingIsSpelling};
 
 /// `if_not` turns each judgement round.
 pub fn not_turns()
@@ -54,4 +54,14 @@ pub fn pattern_spells_at_most_one()
 /// The short spelling of a pattern that a term spells is a spelling of it.
 pub fn short_pattern_is_spelling()
     ensures { ShortPatternIsSpelling }
+{}
+
+/// A term spells at most one list of watched paths.
+pub fn watching_spells_at_most_one()
+    ensures { WatchingSpellsAtMostOne }
+{}
+
+/// The short spelling of watched paths that a term spells is a spelling of them.
+pub fn short_watching_is_spelling()
+    ensures { ShortWatchingIsSpelling }
 {}

@@ -48,9 +48,9 @@ pub fn read_pattern(alloc: Global, term: &Term) -> Result<PathPattern, CondError
     }
 }
 
-// The elements of a list that nil ends.
+/// The elements of a list that nil ends.
 #[tactic(auto, using(kh_term::proofs::Layers::nils, kh_term::specs::Lemmas::Fits::parts))]
-fn elements_of(tree: &TermTree) -> Option<&[TermTree]>
+pub fn elements_of(tree: &TermTree) -> Option<&[TermTree]>
     requires { IsTerm tree.now }
     ensures value { option_map (λ s. s.now) result ≡ elements_of (out-TermTree tree.now) }
     ensures fits { IfSome result (λ s. AreTerms s.now) }

@@ -3,7 +3,8 @@ ghost use Rattle.std.specs.Prelude.{◌≡◌, length};
 
 use crate::{
     Comparison, Cond, CondError, Exact, Operator, Regex, cond_term, judge, matches_data,
-    pattern_term, prepare, push_cond_texts, read_cond, read_pattern,
+    pattern_term, prepare, push_cond_texts, push_watching_texts, read_cond, read_pattern,
+    read_watching, watching_term,
 };
 use kh_regexes::{Patterns, PlainPatterns, RegexPatterns};
 use kh_term::{
@@ -345,5 +346,51 @@ fn texts_are_prepared_once(rt: HostRuntime) -> Result<(), Fail> {
         assert_eq!(rt; answer.is_ok(), refused > 2);
         assert_eq!(rt; patterns.count(), if refused > 2 { 3 } else { 1 });
     }
+    Ok(())
+}
+
+fn words(alloc: Global, texts: &[&str]) -> Result<Term, NoMemory> {
+    let mut terms = Terms::new(alloc);
+    for text in texts {
+        terms.push(atom(word(alloc, text)?))?;
+    }
+    list(alloc, terms)
+}
+
+// Whether a path is watched, in a map that it and the condition `{if_name_matches,<<"a">>}` make, which is written as it was.
+fn is_watched(alloc: Global, path: Term) -> Result<bool, Fail> {
+    let cond = cond_term(alloc, &name_matches(alloc, "a")?)?;
+    let term = map_of_one(alloc, path, cond)?;
+    match read_watching(alloc, &term) {
+        Ok(watching) => {
+            let mut texts = Texts::new(alloc);
+            push_watching_texts(alloc, &watching, &mut texts)?;
+            let again = watching_term(alloc, &watching)?;
+            Ok(texts.len() == 1 && compare(&again, &term).is_eq())
+        }
+        Err(CondError::BadCondition(1)) => Ok(false),
+        Err(_) => Err(NoMemory.into()),
+    }
+}
+
+#[test]
+fn watched_paths_are_read(rt: HostRuntime) -> Result<(), Fail> {
+    let rows: [(&[&str], bool); 6] = [
+        (&[], true),
+        (&["."], true),
+        (&["^", "a"], true),
+        (&["a", "."], false),
+        (&[".", "^"], false),
+        (&[""], false),
+    ];
+    for (at, (path, wanted)) in rows.iter().enumerate() {
+        let path = words(rt.alloc(), path)?;
+        assert_eq!(rt; is_watched(rt.alloc(), path)?, *wanted, "row {at}");
+    }
+    for (count, wanted) in [(32, true), (33, false)] {
+        let path = components(rt.alloc(), count, 99)?;
+        assert_eq!(rt; is_watched(rt.alloc(), path)?, wanted, "{count}");
+    }
+    assert!(rt; read_watching(rt.alloc(), &int(1)).is_err());
     Ok(())
 }

@@ -36,8 +36,8 @@ pub fn push_pattern_texts(
     append(alloc, into, more)
 }
 
-// Moves texts to the end of others.
-fn append(alloc: Global, into: &mut Texts, more: Vec<Text>) -> Result<(), NoMemory>
+/// Moves texts to the end of others.
+pub fn append(alloc: Global, into: &mut Texts, more: Vec<Text>) -> Result<(), NoMemory>
     ensures ok { OnOk result (into.new ≡ into.old ++ more.items) }
     ensures err { OnErr result (into.new ≡ into.old) }
 {
@@ -78,9 +78,10 @@ fn collect_regex(alloc: Global, regex: &Regex, all: &mut Vec<Text>) -> Result<()
     }
 }
 
+/// Adds the texts of a condition to a vector, in order of place.
 #[cycle(collecting)]
 #[tactic(auto, using(crate::proofs::CondLayers::texts))]
-fn collect(alloc: Global, cond: &Cond, all: &mut Vec<Text>) -> Result<(), NoMemory>
+pub fn collect(alloc: Global, cond: &Cond, all: &mut Vec<Text>) -> Result<(), NoMemory>
     ensures { OnOk result (all.new.items ≡ all.old.items ++ texts_of cond.now) }
 {
     match cond {
