@@ -12,8 +12,10 @@ mod PatternLaws
 mod PatternReads
 pub mod Prepared
 mod ReadLayers
+mod Smaller
 mod Sound
 mod Targets
 mod WatchLaws
+mod WatchSmaller
 mod Watches
 mod WildLaws

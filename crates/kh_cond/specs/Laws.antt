@@ -9,6 +9,7 @@ use Rattle.kh_cond.specs.declared.cond.Cond.TheVariants as cond
 use Rattle.kh_cond.specs.declared.component.Component.{Component}
 use Rattle.kh_cond.specs.Holds.{Search, holds}
 use Rattle.kh_cond.specs.Matching.{matches_data}
+use Rattle.kh_cond.specs.NoLarger.{IsNoLarger}
 use Rattle.kh_cond.specs.Wildcards.{has_wildcard}
 use Rattle.kh_cond.specs.Short.{cond_tree, pattern_tree}
 use Rattle.kh_cond.specs.Spells.{SpellsCond, SpellsPattern}
@@ -66,3 +67,15 @@ WatchingSpellsAtMostOne = (t : TermTree) (p q : List (Watched × Cond)) → Spel
 -- The short spelling of watched paths that a term spells is a spelling of them.
 abbrev pub ShortWatchingIsSpelling : Type 0
 ShortWatchingIsSpelling = (t : TermTree) (ws : List (Watched × Cond)) → SpellsWatching t ws → SpellsWatching (watching_tree ws) ws
+
+-- The short spelling of a condition is no larger than any spelling of it.
+abbrev pub ShortIsNoLarger : Type 0
+ShortIsNoLarger = (t : TermTree) (c : Cond) → SpellsCond t c → IsNoLarger (cond_tree c) t
+
+-- The short spelling of a pattern is no larger than any spelling of it.
+abbrev pub ShortPatternIsNoLarger : Type 0
+ShortPatternIsNoLarger = (t : TermTree) (q : List Component) → SpellsPattern t q → IsNoLarger (pattern_tree q) t
+
+-- The short spelling of watched paths is no larger than any spelling of them.
+abbrev pub ShortWatchingIsNoLarger : Type 0
+ShortWatchingIsNoLarger = (t : TermTree) (ws : List (Watched × Cond)) → SpellsWatching t ws → IsNoLarger (watching_tree ws) t

@@ -4,6 +4,7 @@ pub mod Forms
 pub mod Holds
 pub mod Laws
 pub mod Matching
+pub mod NoLarger
 pub mod Reading
 pub mod Short
 pub mod Spells

@@ -1,5 +1,5 @@
 //! The laws of conditions: what a clause states of every one. The functions have no code.
-ghost use Rattle.kh_cond.specs.Laws.{NotTurns, EmptyAllHolds, EmptyAnyFails, MissingNeedsNoSearch, UnderscoreMatchesAll, PlainPatternMatchesOne, EachMatchesItself, SpellsAtMostOne, ShortIsSpelling, PatternSpellsAtMostOne, ShortPatternIsSpelling, WatchingSpellsAtMostOne, ShortWatchingIsSpelling};
+ghost use Rattle.kh_cond.specs.Laws.{NotTurns, EmptyAllHolds, EmptyAnyFails, MissingNeedsNoSearch, UnderscoreMatchesAll, PlainPatternMatchesOne, EachMatchesItself, SpellsAtMostOne, ShortIsSpelling, PatternSpellsAtMostOne, ShortPatternIsSpelling, WatchingSpellsAtMostOne, ShortWatchingIsSpelling, ShortIsNoLarger, ShortPatternIsNoLarger, ShortWatchingIsNoLarger};
 
 /// `if_not` turns each judgement round.
 pub fn not_turns()
@@ -64,4 +64,19 @@ pub fn watching_spells_at_most_one()
 /// The short spelling of watched paths that a term spells is a spelling of them.
 pub fn short_watching_is_spelling()
     ensures { ShortWatchingIsSpelling }
+{}
+
+/// The short spelling of a condition is no larger than any spelling of it: see `specs/NoLarger.antt`.
+pub fn short_is_no_larger()
+    ensures { ShortIsNoLarger }
+{}
+
+/// The short spelling of a pattern is no larger than any spelling of it.
+pub fn short_pattern_is_no_larger()
+    ensures { ShortPatternIsNoLarger }
+{}
+
+/// The short spelling of watched paths is no larger than any spelling of them.
+pub fn short_watching_is_no_larger()
+    ensures { ShortWatchingIsNoLarger }
 {}

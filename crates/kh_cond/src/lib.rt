@@ -30,9 +30,10 @@ pub use exact::Exact;
 pub use judging::{is_found, judge};
 pub use laws::{
     each_matches_itself, empty_all_holds, empty_any_fails, missing_needs_no_search, not_turns,
-    pattern_spells_at_most_one, plain_pattern_matches_one, short_is_spelling,
-    short_pattern_is_spelling, short_watching_is_spelling, spells_at_most_one,
-    underscore_matches_all, watching_spells_at_most_one,
+    pattern_spells_at_most_one, plain_pattern_matches_one, short_is_no_larger, short_is_spelling,
+    short_pattern_is_no_larger, short_pattern_is_spelling, short_watching_is_no_larger,
+    short_watching_is_spelling, spells_at_most_one, underscore_matches_all,
+    watching_spells_at_most_one,
 };
 pub use matching::{matches_data, tree_matches};
 pub use pattern::{MOST_COMPONENTS, PathPattern};
