@@ -2,3 +2,4 @@ mod Each
 mod Literals
 mod Relabel
 mod Trees
+mod Weights

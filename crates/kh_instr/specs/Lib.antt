@@ -5,5 +5,6 @@ pub mod Operands
 pub mod Rows
 pub mod Syntax
 pub mod Tables
+pub mod Weight
 pub mod Words
 pub mod Written

@@ -16,6 +16,11 @@ use Rattle.kh_instr.specs.Tables.{builtin_named, service_named}
 abbrev pub is_library : Origin → Bool
 is_library f = is_some (builtin_named f) || is_some (service_named f)
 
+-- whether the table lists an instruction: it isn't an unsupported one
+abbrev pub is_listed : Instr → Bool
+is_listed (instr.Unsupported text) = false
+is_listed i = true
+
 -- whether an instruction is a label
 abbrev pub is_any_label : Instr → Bool
 is_any_label (instr.Label n) = true

@@ -12,7 +12,9 @@ mod operands;
 mod reading;
 mod rows;
 mod shapes;
+mod syntax;
 mod test;
+mod weight;
 mod words;
 
 pub use builtin::{BUILTINS, Builtin, Row, SERVICES, Service, builtin_of, service_of};
@@ -23,5 +25,6 @@ pub use meaning::Meaning;
 pub use module::{Export, Exports, Function, Module, Standalone};
 pub use operand::{Cases, Gets, Puts, Reg, Regs, Sizes, Source, Sources};
 pub use reading::{first_word, instr_of, tree_instr};
+pub use syntax::{far_callee, is_any_label, is_listed, labels, near_callee};
 pub use test::{Comparison, Test, TypeTest};
 pub use words::{Spelled, TestName, Word};
