@@ -3,6 +3,7 @@ pub mod Emitted
 pub mod Laws
 pub mod Operands
 pub mod Rows
+pub mod Spelling
 pub mod Syntax
 pub mod Tables
 pub mod Weight

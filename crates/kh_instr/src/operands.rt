@@ -289,7 +289,8 @@ fn some_unsupported(trees: &[TermTree]) -> bool
 #[cycle(unsupported)]
 #[tactic(auto, using(crate::proofs::Literals::literals))]
 fn some_pair_unsupported(pairs: &[(TermTree, TermTree)]) -> bool
-    ensures { result ≡ some_hold (map (λ p. holds_unsupported p.0 || holds_unsupported p.1) pairs.now) }
+    ensures { result ≡ some_hold
+        (map (λ p. holds_unsupported p.0 || holds_unsupported p.1) pairs.now) }
 {
     for pair in pairs {
         let key = holds_unsupported(&pair.0);

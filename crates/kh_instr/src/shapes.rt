@@ -123,7 +123,8 @@ pub fn five<A: Shape, B: Shape, C: Shape, D: Shape, E: Shape>(
     parts: &[TermTree],
 ) -> Result<Option<(A::Value, B::Value, C::Value, D::Value, E::Value)>, NoMemory>
     requires { AreTerms parts.now }
-    ensures { IfOk result (λ found. found ≡ five A.reads B.reads C.reads D.reads E.reads parts.now) }
+    ensures { IfOk result (λ found. found ≡
+        five A.reads B.reads C.reads D.reads E.reads parts.now) }
 {
     match parts {
         [a, b, c, d, e] => {
