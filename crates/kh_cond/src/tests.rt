@@ -1,14 +1,17 @@
 //! Conditions by tables that were written by hand.
+ghost use Rattle.std.specs.Prelude.{◌≡◌, length};
+
 use crate::{
-    Cond, CondError, Exact, Regex, cond_term, matches_data, pattern_term, prepare, push_cond_texts,
-    push_watching_texts, read_cond, read_pattern, read_watching, watching_term,
+    Comparison, Cond, CondError, Exact, Operator, Regex, cond_term, judge, matches_data,
+    pattern_term, prepare, push_cond_texts, push_watching_texts, read_cond, read_pattern,
+    read_watching, watching_term,
 };
-use kh_regexes::{Patterns, PlainPatterns};
+use kh_regexes::{Patterns, PlainPatterns, RegexPatterns};
 use kh_term::{
-    Atom, Bytes, NoMemory, Term, Terms, Text, Texts, atom, bin, compare, int, list, list_with_tail,
-    map_of_one, nil, pair, tuple,
+    Atom, Bytes, Kind, Name, NoMemory, NodeView, Term, Terms, Text, Texts, atom, bin, compare, int,
+    list, list_with_tail, map_of_one, nil, pair, tuple,
 };
-use sqlite_items::Items;
+use sqlite_items::{Boxed, Items};
 use std::alloc::Global;
 use std::process::Abort;
 use std::test::Fail;
@@ -25,6 +28,115 @@ fn name_matches(alloc: Global, text: &str) -> Result<Cond, NoMemory> {
         Some(text) => Ok(Cond::NameMatches(Regex::Text(text))),
         None => Err(NoMemory),
     }
+}
+
+// The root, a node without a payload, one with the data 7 and one with a procedure, the three named `oak`.
+fn view(alloc: Global, which: usize) -> Result<NodeView, NoMemory> {
+    let name = match which {
+        0 => None,
+        _ => Some(Name::Atom(word(alloc, "oak")?)),
+    };
+    let (payload, datum) = match which {
+        2 => (Kind::Data, Some(int(7))),
+        3 => (Kind::Sproc, None),
+        _ => (Kind::Empty, None),
+    };
+    Ok(NodeView {
+        name,
+        payload,
+        datum,
+        payload_version: 3,
+        child_list_version: 1,
+        children: 0,
+    })
+}
+
+// Whether each row holds of a missing node and of the four views.
+const ROWS: [&str; 18] = [
+    "-++++", "+----", "--+++", "-++++", "--+++", "-+---", "-----", "---++", "-++--", "---+-",
+    "----+", "-+++-", "---+-", "---+-", "+----", "+++++", "-----", "-++++",
+];
+
+fn row(alloc: Global, at: usize) -> Result<Cond, NoMemory> {
+    match at {
+        0 => Ok(Cond::NodeExists(true)),
+        1 => Ok(Cond::NodeExists(false)),
+        2 => Ok(Cond::Name(Name::Atom(word(alloc, "oak")?))),
+        3 => Ok(Cond::NameMatches(Regex::Any)),
+        4 => name_matches(alloc, "^oa"),
+        5 => name_matches(alloc, "^$"),
+        6 => Ok(Cond::PathMatches(Regex::Any)),
+        7 => Ok(Cond::HasPayload(true)),
+        8 => Ok(Cond::HasPayload(false)),
+        9 => Ok(Cond::HasData(true)),
+        10 => Ok(Cond::HasSproc(true)),
+        11 => Ok(Cond::HasSproc(false)),
+        12 => Ok(Cond::DataMatches(int(7))),
+        13 => Ok(Cond::DataMatches(atom(word(alloc, "_")?))),
+        14 => Ok(Cond::Not(Boxed::new(alloc, Cond::NodeExists(true))?)),
+        15 => Ok(Cond::All(Items::new(alloc))),
+        16 => Ok(Cond::Any(Items::new(alloc))),
+        _ => Ok(Cond::ChildListLength(Comparison::By(Operator::Less, i128::MAX))),
+    }
+}
+
+// What a condition is judged on a missing node or on one of the four views.
+#[tactic(auto, using(crate::proofs::Prepared::prepared))]
+fn judged<P: Patterns>(
+    alloc: Global,
+    cond: &Cond,
+    patterns: &mut P,
+    which: usize,
+) -> Result<bool, Fail>
+    requires { length (P.texts patterns.old) ≡ 0 }
+{
+    let mut texts = Texts::new(alloc);
+    push_cond_texts(alloc, cond, &mut texts)?;
+    if texts.len() > 64 {
+        return Err(NoMemory.into());
+    }
+    prepare(&texts, patterns)?;
+    if which == 0 {
+        return Ok(judge(cond, None, patterns)?);
+    }
+    let view = view(alloc, which - 1)?;
+    Ok(judge(cond, Some(&view), patterns)?)
+}
+
+#[test]
+fn rows_are_judged(rt: HostRuntime) -> Result<(), Fail> {
+    for (at, wanted) in ROWS.iter().enumerate() {
+        let cond = row(rt.alloc(), at)?;
+        for (which, holds) in wanted.as_bytes().iter().enumerate() {
+            let mut patterns = RegexPatterns::new(rt.alloc())?;
+            let found = judged(rt.alloc(), &cond, &mut patterns, which)?;
+            assert_eq!(rt; found, *holds == b'+', "row {at}, view {which}");
+        }
+    }
+    let mut patterns = PlainPatterns::new(rt.alloc(), Vec::new(rt.alloc()))?;
+    let in_name = name_matches(rt.alloc(), "ak")?;
+    assert_eq!(rt; judged(rt.alloc(), &in_name, &mut patterns, 2)?, true);
+    Ok(())
+}
+
+#[test]
+fn numbers_are_compared(rt: HostRuntime) -> Result<(), Fail> {
+    for (operator, wanted) in [
+        (Operator::Equal, "-+-"),
+        (Operator::NotEqual, "+-+"),
+        (Operator::Less, "--+"),
+        (Operator::AtMost, "-++"),
+        (Operator::Greater, "+--"),
+        (Operator::AtLeast, "++-"),
+    ] {
+        for (at, holds) in wanted.as_bytes().iter().enumerate() {
+            let cond = Cond::PayloadVersion(Comparison::By(operator, at as i128 + 2));
+            let mut patterns = PlainPatterns::new(rt.alloc(), Vec::new(rt.alloc()))?;
+            let found = judged(rt.alloc(), &cond, &mut patterns, 1)?;
+            assert_eq!(rt; found, *holds == b'+', "{wanted} at {at}");
+        }
+    }
+    Ok(())
 }
 
 fn bytes(alloc: Global, bytes: &[u8]) -> Result<Term, NoMemory> {
