@@ -1,9 +1,9 @@
 -- The terms of cells: one cell more, fewer cells, and more texts.
-use Rattle.std.proofs.Common.{◌≡◌, ℕ, zero, suc, ◌+◌, ◌*◌, ◌-◌, ◌<◌, ◌≤◌, List, [], ◌∷◌, ◌++◌, length, take, drop, get_or, min, refl, sym, ap, subst, ◌∙◌, arith, inl, inr, add-one, length-append, length-drop}
-use native.Mathlib.Nat.{not-suc-le-zero, le_of_suc-le-suc}
+use Rattle.std.proofs.Common.{◌≡◌, ℕ, zero, suc, ◌+◌, ◌*◌, ◌<◌, ◌≤◌, List, [], ◌∷◌, ◌++◌, length, take, drop, get_or, refl, sym, ap, subst, ◌∙◌, arith, inl, inr, add-one, length-append, length-drop}
+use native.Mathlib.Nat.{not-suc-le-zero}
 use Rattle.std.proofs.Math.ListN.{get_or-append}
-use Rattle.std.proofs.lemmas.Bool.{cases_eq, cases_lt}
-use Rattle.std.proofs.lemmas.List.{append-nil, take-append-le, take-append-drop, take_all, drop-append-le, get_or_push, get_or-take, length-take, length-take-le}
+use Rattle.std.proofs.lemmas.Bool.{cases_eq}
+use Rattle.std.proofs.lemmas.List.{append-nil, take-append-le, take-append-drop, take_all, drop-append-le, get_or_push, get_or-take, length-take-le}
 use Rattle.std.proofs.lemmas.Option.{get_or_from_slice_get, slice_get_within}
 use Rattle.std.specs.Prelude.{slice_get, Some}
 use Rattle.kh_term.specs.declared.name.Origin.{Origin}

@@ -1,8 +1,7 @@
 -- Heaps that grew: what a reference stood for it stands for.
-use Rattle.std.proofs.Common.{◌≡◌, ℕ, zero, suc, ◌+◌, ◌<◌, ◌≤◌, List, [], ◌∷◌, ◌++◌, length, map, take, get_or, min, refl, sym, ap, subst, ◌∙◌, arith, length-append}
-use Rattle.std.proofs.Math.ListN.{get_or-append}
+use Rattle.std.proofs.Common.{◌≡◌, ℕ, suc, ◌≤◌, List, [], ◌∷◌, ◌++◌, length, take, get_or, refl, sym, ap, ◌∙◌, arith, length-append}
 use Rattle.std.proofs.lemmas.List.{take_at, take_all, take-take, get_or_push, get_or-take, length-take}
-use Rattle.std.specs.Prelude.{Result, Ok, Err, OnErr}
+use Rattle.std.specs.Prelude.{Result, Ok, Err, OnOk, OnErr}
 use Rattle.kh_term.specs.declared.tree.TermTree.{TermTree}
 use Rattle.kh_term.specs.declared.tree.TermTree.TheVariants as tree
 use Rattle.kh_heap.specs.Heap.{term_at, terms_at, pairs_at, Holds, HoldsAll, HoldsPairs, Stands, Grew}
@@ -43,6 +42,17 @@ terms_at-grew old new (r ∷ rs) g h =
     let first = term_at-grew old new r g (h 0 r (omega arith)) in
     λ i. first i ∷ rest i
 
+pub HoldsPairs-grew : (old new : List TermTree) (ps : List (ℕ × ℕ)) → Grew old new → HoldsPairs old ps → HoldsPairs new ps
+HoldsPairs-grew old new ps g h = λ k d l. (Holds-grew old new (get_or ps k d).0 g (h k d l).0, Holds-grew old new (get_or ps k d).1 g (h k d l).1)
+
+pub pairs_at-grew : (old new : List TermTree) (ps : List (ℕ × ℕ)) → Grew old new → HoldsPairs old ps → pairs_at new ps ≡ pairs_at old ps
+pairs_at-grew old new [] g h = refl
+pairs_at-grew old new (p ∷ ps) g h =
+    let rest = pairs_at-grew old new ps g (λ k d l. h (suc k) d (omega (arith, l))) in
+    let key = term_at-grew old new p.0 g (h 0 p (omega arith)).0 in
+    let value = term_at-grew old new p.1 g (h 0 p (omega arith)).1 in
+    λ i. (key i, value i) ∷ rest i
+
 -- the last cell
 pub Stands-last : (old new : List TermTree) (r : ℕ) (t : TermTree) → new ≡ old ++ t ∷ [] → r ≡ length old → Stands new r t
 Stands-last old new r t e at = record {
@@ -57,3 +67,7 @@ on_err (Err e) p = p
 
 -- what a caller that makes several terms needs of those that it made before
 pub ruleset kept = (Grew-trans, Holds-grew, term_at-grew, Stands-grew)
+
+pub on_ok : {T E P : Type 0} (r : Result T E) → P → OnOk r P
+on_ok (Ok x) p = p
+on_ok (Err e) p = tt

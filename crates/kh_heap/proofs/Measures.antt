@@ -1,7 +1,7 @@
 -- The size and the depth of terms, from those of their parts.
-use Rattle.std.proofs.Common.{◌≡◌, ℕ, zero, suc, ◌+◌, ◌-◌, ◌*◌, ◌/◌, ◌<◌, ◌≤◌, ◌&&◌, max, Bool, true, false, not, IsTrue, if◌then◌else◌, nat_le, List, [], ◌∷◌, ◌++◌, length, map, sum, refl, sym, ap, subst, ◌∙◌, ◌^◌, arith, div-add-mod', ℤ, pos, negsuc, of_z, to_z, SFits}
+use Rattle.std.proofs.Common.{◌≡◌, ℕ, zero, suc, ◌+◌, ◌-◌, ◌<◌, ◌≤◌, ◌&&◌, max, Bool, true, false, not, IsTrue, if◌then◌else◌, nat_le, List, [], ◌∷◌, ◌++◌, length, map, drop, refl, sym, ap, subst, ◌∙◌, ◌^◌, arith, div-add-mod', ℤ, pos, negsuc, of_z, to_z, SFits}
 use mathlib.Core.Bool.{true≢false}
-use borrow.Author.Tests.{leb-true, ltb-true, le-leb, lt-leb}
+use borrow.Author.Tests.{leb-true, ltb-true, le-leb}
 use Rattle.std.specs.Int.{w128}
 use Rattle.std.proofs.lemmas.Int.{to_z-of_z}
 use Rattle.kh_term.specs.declared.name.Origin.{Origin}
@@ -11,30 +11,20 @@ use Rattle.kh_term.specs.declared.tree.TermTree.TheVariants.{outs-Int, outs-Atom
 use Rattle.kh_term.specs.declared.tree.TermTree.TheOpen.{TermTree-F}
 use Rattle.kh_term.specs.declared.tree.TermTree.TheOpen as layer
 use Rattle.kh_term.specs.Limits.{is_small, most_size, most_depth}
-use Rattle.kh_term.specs.Make.{list_with_tail, in_front_of}
-use Rattle.kh_term.specs.Size.{size_of, sizes_of, depth_of, greatest, is_nil}
-use Rattle.kh_term.specs.Text.{is_atom_text, are_bytes}
-use Rattle.kh_term.specs.WellFormed.{IsTerm, AreTerms, is_list, fits_128}
+use Rattle.kh_term.specs.Make.{in_front_of}
+use Rattle.kh_term.specs.Size.{size_of, sizes_of, depth_of, is_nil}
+use Rattle.kh_term.specs.Text.{is_atom_text}
+use Rattle.kh_term.specs.WellFormed.{IsTerm, is_list, is_list_of, fits_128}
 use Rattle.kh_term.specs.Lemmas.Layers.{faults-Int}
 use Rattle.kh_term.specs.Lemmas.Induction.{by_parts}
-use Rattle.kh_term.specs.Lemmas.Fits.{holds, fits-Int, fits-Atom, fits-Bin, fits-List, fits-Nil, fits_more, fits_proper, fits_in_front, parts_of_list, tail_of_list, ends_list, sum-cons}
-use Rattle.kh_term.proofs.Layers.{size-Int, size-Atom, size-Bin, size-Nil, size-List, size-Tuple, size-Map, size-Closure, depth-Int, depth-Atom, depth-Bin, depth-Nil, depth-List, depth-Tuple, depth-Map, depth-Closure}
-use Rattle.kh_heap.specs.Cells.{Measured}
+use Rattle.kh_term.specs.Lemmas.Fits.{holds, fits-Int, fits-Atom, fits-List, fits-Nil, fits_more, fits_proper, fits_in_front, sum-cons}
+use Rattle.kh_term.proofs.Layers.{size-Int, size-Atom, size-Bin, size-Nil, size-List, depth-Int, depth-Atom, depth-Nil, depth-List}
+use Rattle.kh_heap.specs.Cells.{Measured, onto}
 use Rattle.kh_heap.specs.Heap.{cons_tree}
 
 -- a term is within the limits exactly where both numbers are
 pub small-both : (t : TermTree) → size_of t ≤ most_size → depth_of t ≤ most_depth → is_small t ≡ true
 small-both t few low = λ i. le-leb (size_of t) most_size few i && le-leb (depth_of t) most_depth low i
-
-pub small-size : (t : TermTree) → most_size < size_of t → is_small t ≡ false
-small-size t l = λ i. lt-leb (size_of t) most_size l i && nat_le (depth_of t) most_depth
-
-pub small-depth : (t : TermTree) → most_depth < depth_of t → is_small t ≡ false
-small-depth t l = ap (λ b. nat_le (size_of t) most_size && b) (lt-leb (depth_of t) most_depth l) ∙ and_false (nat_le (size_of t) most_size)
-  where
-    and_false : (b : Bool) → (b && false) ≡ false
-    and_false true = refl
-    and_false false = refl
 
 both_true : (a b : Bool) → (a && b) ≡ true → (a ≡ true) × (b ≡ true)
 both_true true b e = (refl, e)
@@ -45,9 +35,6 @@ small-few t e = leb-true (size_of t) most_size (both_true (nat_le (size_of t) mo
 
 pub small-low : (t : TermTree) → is_small t ≡ true → depth_of t ≤ most_depth
 small-low t e = leb-true (depth_of t) most_depth (both_true (nat_le (size_of t) most_size) (nat_le (depth_of t) most_depth) e).1
-
-pub measured-small : (size depth : ℕ) (t : TermTree) → Measured size depth t → is_small t ≡ true
-measured-small size depth t m = small-both t m.few m.low
 
 pub measured-of : (size depth : ℕ) (t : TermTree) → is_small t ≡ true → size ≡ size_of t → depth ≡ depth_of t → IsTerm t → Measured size depth t
 measured-of size depth t small s d fits = record { size_is = s; depth_is = d; few = small-few t small; low = small-low t small; fits = fits }
@@ -181,3 +168,36 @@ cons-is-List h = by_tail h (λ t c. (xs : List TermTree) × (tail : TermTree) ×
   at_nil = (h ∷ [], tree.Nil, refl);
   at_other = λ t is. (h ∷ [], t, refl);
 }
+
+-- a tail is no deeper than the list
+pub depth-tail : (h t : TermTree) → depth_of t ≤ depth_of (cons_tree h t)
+depth-tail h = by_tail h (λ t c. depth_of t ≤ depth_of c) record {
+  at_list = λ xs tail. omega (arith, depth-List (h ∷ xs) tail, depth-List xs tail);
+  at_nil = omega (arith, depth-List (h ∷ []) tree.Nil, depth-Nil);
+  at_other = λ t is. omega (arith, depth-List (h ∷ []) t, ap (λ b. if b then 0 else depth_of t) is.no_nil);
+}
+
+-- terms in front of a tail: those from the i-th on are no larger and no deeper than all
+pub onto-few : (ts : List TermTree) (x : TermTree) (i : ℕ) → size_of (onto (drop i ts) x) ≤ size_of (onto ts x)
+onto-few ts x zero = omega arith
+onto-few [] x (suc i) = omega arith
+onto-few (t ∷ ts) x (suc i) = omega (arith, onto-few ts x i, size-cons t (onto ts x))
+
+pub onto-low : (ts : List TermTree) (x : TermTree) (i : ℕ) → depth_of (onto (drop i ts) x) ≤ depth_of (onto ts x)
+onto-low ts x zero = omega arith
+onto-low [] x (suc i) = omega arith
+onto-low (t ∷ ts) x (suc i) = omega (arith, onto-low ts x i, depth-tail t (onto ts x))
+
+-- in front of what is no list they are the list of them
+pub onto-List : (ts : List TermTree) (x : TermTree) → is_list_of ts x ≡ true → onto ts x ≡ tree.List ts x
+onto-List [] x e = absurd (true≢false (sym e))
+onto-List (t ∷ []) x e = by_tail t (λ y c. is_list_of (t ∷ []) y ≡ true → c ≡ tree.List (t ∷ []) y) record {
+  at_list = λ xs tail f. absurd (true≢false (sym f ∙ ap (λ l. not (is_list l)) (outs-List xs tail)));
+  at_nil = λ f. refl;
+  at_other = λ y is f. refl;
+} x e
+onto-List (t ∷ u ∷ ts) x e = ap (cons_tree t) (onto-List (u ∷ ts) x e) ∙ cons-List t (u ∷ ts) x
+
+pub onto-pushed : (ts : List TermTree) (t x : TermTree) → onto (ts ++ t ∷ []) x ≡ onto ts (cons_tree t x)
+onto-pushed [] t x = refl
+onto-pushed (u ∷ ts) t x = ap (cons_tree u) (onto-pushed ts t x)

@@ -1,19 +1,17 @@
 -- What a cell shows of its term.
-use Rattle.std.proofs.Common.{◌≡◌, ℕ, zero, suc, ◌+◌, ◌-◌, ◌*◌, ◌<◌, ◌≤◌, max, List, [], ◌∷◌, ◌++◌, length, take, drop, get_or, refl, sym, ap, subst, ◌∙◌, arith, length-drop, ℤ}
-use native.Mathlib.Nat.{not-suc-le-zero, le_of_suc-le-suc}
+use Rattle.std.proofs.Common.{◌≡◌, ℕ, zero, suc, ◌+◌, ◌-◌, ◌*◌, ◌<◌, ◌≤◌, max, List, [], ◌∷◌, length, take, drop, get_or, refl, sym, ap, ◌∙◌, arith, length-drop}
+use native.Mathlib.Nat.{not-suc-le-zero}
 use Rattle.std.proofs.lemmas.List.{length-take, length-take-le, get_or-take, get_or-drop}
 use Rattle.kh_term.specs.declared.name.Origin.{Origin}
 use Rattle.kh_term.specs.declared.tree.TermTree.{TermTree, out-TermTree}
 use Rattle.kh_term.specs.declared.tree.TermTree.TheVariants as tree
 use Rattle.kh_term.specs.declared.tree.TermTree.TheVariants.{outs-Int, outs-Atom, outs-Bin, outs-Nil, outs-List, outs-Tuple, outs-Map, outs-Closure}
-use Rattle.kh_term.specs.declared.tree.TermTree.TheOpen.{TermTree-F}
-use Rattle.kh_term.specs.declared.tree.TermTree.TheOpen as layer
 use Rattle.kh_term.specs.Order.{rank_of}
 use Rattle.kh_term.specs.Size.{depth_of}
 use Rattle.kh_heap.specs.declared.cell.Kind.{Kind}
 use Rattle.kh_heap.specs.declared.cell.Kind.TheVariants as kind
 use Rattle.kh_heap.specs.Cells.{Tables, paired, run_at, value, Below, number_of, first_of, tail_depth}
-use Rattle.kh_heap.specs.Heap.{term_at, cons_tree, Holds}
+use Rattle.kh_heap.specs.Heap.{term_at, cons_tree}
 use Rattle.kh_heap.specs.Parts.{no_origin, text_on, text_in, bytes_on, bytes_in, origin_on, origin_in, pairs_on, pairs_in, in_turn, parts_on, parts_in}
 use Rattle.kh_heap.specs.View.{IsAtom, IsBin, IsFun}
 use Rattle.kh_heap.proofs.Measures.{cons-is-List, IsOther, other-Int, other-Atom, other-Bin, other-Tuple, other-Map, other-Closure, depth-cons-List, depth-cons-Nil, depth-cons-other}

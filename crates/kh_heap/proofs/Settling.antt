@@ -1,6 +1,7 @@
 -- What calls answer: that a term is within the limits, or is not, and what a pushed cell leaves.
-use Rattle.std.proofs.Common.{◌≡◌, ℕ, ◌+◌, ◌*◌, ◌<◌, ◌≤◌, ◌&&◌, nat_le, not, Bool, true, false, List, [], ◌∷◌, ◌++◌, length, map, take, get_or, refl, sym, ap, subst, ◌∙◌, arith, length-append}
-use Rattle.std.specs.Prelude.{Result, Ok, Err, IfOk, IfErr, OnOk, OnErr}
+use Rattle.std.proofs.Common.{◌≡◌, ℕ, ◌+◌, ◌*◌, ◌<◌, ◌≤◌, ◌&&◌, nat_le, not, Bool, true, false, List, [], ◌∷◌, ◌++◌, length, take, get_or, refl, sym, ap, subst, ◌∙◌, arith, length-append}
+use mathlib.Core.Bool.{true≢false}
+use Rattle.std.specs.Prelude.{Result, Ok, Err, IfOk, IfErr, OnOk}
 use Rattle.std.proofs.lemmas.List.{length-take-le, append_assoc}
 use Rattle.kh_term.specs.declared.tree.TermTree.{TermTree}
 use Rattle.kh_term.specs.Limits.{is_small, most_size, most_depth}
@@ -86,3 +87,9 @@ pub map-run : (old new : List TermTree) (ps : List (TermTree × TermTree)) (firs
 map-run old new ps first n e at count =
     ap (λ (ts : List TermTree). paired (run_at ts first (2 * n))) e
     ∙ ap paired (run-last old (in_turn ps) first (2 * n) at (omega (arith, count, length-in_turn ps))) ∙ paired-in_turn ps
+
+-- a term within the limits is refused for want of memory alone
+pub small-cause : (r : Result ℕ HeapError) (t : TermTree) → Limits r t → is_small t ≡ true → IfErr r (λ e. e ≡ error.NoMemory)
+small-cause (Ok r) t limits small = tt
+small-cause (Err error.TooLarge) t limits small = absurd (true≢false (sym small ∙ limits))
+small-cause (Err error.NoMemory) t limits small = refl

@@ -1,5 +1,5 @@
 -- A heap as contracts see it: the list of the terms that its cells stand for. A reference is a place in that list.
-use Rattle.std.specs.Prelude.{◌≡◌, ℕ, ◌+◌, ◌*◌, ◌-◌, ◌^◌, ◌<◌, Bool, true, false, not, nat_le, ◌&&◌, List, [], ◌∷◌, length, map, take, min, slice_index_or, Result, Ok, Err}
+use Rattle.std.specs.Prelude.{◌≡◌, ℕ, ◌*◌, ◌-◌, ◌^◌, ◌<◌, Bool, true, false, not, nat_le, ◌&&◌, List, [], ◌∷◌, length, map, take, min, slice_index_or, Result, Ok, Err}
 use Rattle.std.specs.List.{All}
 use Rattle.kh_term.specs.declared.tree.TermTree.{TermTree}
 use Rattle.kh_term.specs.declared.tree.TermTree.TheVariants as tree
@@ -48,7 +48,7 @@ pub record Grew (old new : List TermTree) : Type 0 where
 unfoldable pub cons_tree : TermTree → TermTree → TermTree
 cons_tree head tail = list_with_tail (head ∷ []) tail
 
--- the most cells that the loading of a term makes: two for each unit of size, and none where it is too large
+-- the most cells that loading a term makes: two for each unit of its size, as far as the greatest size
 abbrev pub cells_to_load : TermTree → ℕ
 cells_to_load t = 2 * min (size_of t) most_size
 

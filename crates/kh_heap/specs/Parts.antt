@@ -1,5 +1,5 @@
 -- The parts of a term: what its kind has, and nothing where it is of another kind.
-use Rattle.std.specs.Prelude.{ℕ, List, [], ◌∷◌}
+use Rattle.std.specs.Prelude.{ℕ, zero, suc, List, [], ◌∷◌}
 use Rattle.kh_term.specs.declared.name.Origin.{Origin}
 use Rattle.kh_term.specs.declared.tree.TermTree.{TermTree, out-TermTree}
 use Rattle.kh_term.specs.declared.tree.TermTree.TheOpen.{TermTree-F}
@@ -55,3 +55,8 @@ parts_on l = []
 -- the elements of a tuple, the captured values of a function, and of a map its keys and values in turn
 abbrev pub parts_in : TermTree → List TermTree
 parts_in t = parts_on (out-TermTree t)
+
+-- the key (0) or the value of a pair
+abbrev pub side : {A : Type 0} → ℕ → A × A → A
+side zero p = p.0
+side (suc n) p = p.1

@@ -1,9 +1,12 @@
 //! The heap, and the cells that its calls add.
-ghost use Rattle.std.specs.Prelude.{◌≡◌, ◌+◌, ◌*◌, ◌<◌, ◌≤◌, [], ◌∷◌, ◌++◌, length, take, IfOk, IfErr, OnOk, OnErr};
+ghost use Rattle.std.specs.Prelude.{ℕ, ◌≡◌, ◌+◌, ◌*◌, ◌<◌, ◌≤◌, [], ◌∷◌, ◌++◌, length, take, IfOk, IfErr, OnOk, OnErr};
 ghost use Rattle.kh_term.specs.declared.tree.TermTree.TheVariants as tree;
+ghost use Rattle.kh_term.specs.Limits.{most_size};
+ghost use Rattle.kh_term.specs.WellFormed.{IsTerm};
 ghost use Rattle.kh_heap.specs.declared.error.HeapError.TheVariants.{NoMemory};
 ghost use Rattle.kh_heap.specs.Cells.{no_tables, value, Below, Measured, run_at};
 ghost use Rattle.kh_heap.specs.Heap.{most_cells, term_at, Holds};
+ghost use Rattle.kh_heap.specs.Parts.{parts_in};
 
 use crate::cell::{Cell, Kind};
 use crate::error::HeapError;
@@ -60,6 +63,15 @@ impl Heap {
         ensures { result ≡ length self.now }
     {
         self.cells.len()
+    }
+
+    // Each reference stands for a well-formed term, which has few parts.
+    pub(crate) fn stands_for_terms(&self)
+        ensures fits { (r : ℕ) → Holds self.now r → IsTerm (term_at self.now r) }
+        ensures few { (r : ℕ) → Holds self.now r
+            → length (parts_in (term_at self.now r)) ≤ most_size }
+    {
+        let _cells = self.cells.len();
     }
 
     // Leaves the first `mark` cells.

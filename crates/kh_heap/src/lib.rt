@@ -6,11 +6,14 @@
 #![tactic(auto)]
 
 mod cell;
+mod comparing;
 mod error;
 mod heap;
+mod loading;
 mod making;
 mod reading;
 mod reference;
+mod storing;
 mod tables;
 #[cfg(test)]
 mod tests;

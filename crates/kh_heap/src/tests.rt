@@ -1,9 +1,14 @@
 // Terms made of one another, up to the limits and past them: run them too with each allocation refused in turn.
-ghost use Rattle.std.specs.Prelude.{◌+◌, ◌*◌, ◌<◌, ◌≤◌, length, IfOk};
-ghost use Rattle.kh_heap.specs.Heap.{most_cells, Holds, Grew};
+ghost use Rattle.std.specs.Prelude.{◌≡◌, ◌+◌, ◌*◌, ◌<◌, ◌≤◌, length, IfOk, OnErr};
+ghost use Rattle.kh_heap.specs.Heap.{most_cells, cells_to_load, Holds, Grew};
 
 use crate::{Heap, HeapError, Ref, View};
+use kh_term::{
+    Atom, Bytes, Origin, Term, Terms, atom, bin, closure, int, list, list_with_tail, map_of_one,
+    nil, pair,
+};
 use std::alloc::Global;
+use std::cmp::Ordering;
 use std::process::Abort;
 
 // What a term is put into.
@@ -102,6 +107,37 @@ fn nested(
     Ok(inner)
 }
 
+// The tuple of so many references to one term.
+fn repeated(heap: &mut Heap, alloc: Global, r: Ref, count: usize) -> Result<Ref, HeapError>
+    requires room { length heap.old + count + 1 < most_cells }
+    requires held { Holds heap.old r }
+    ensures held { IfOk result (Holds heap.new) }
+    ensures grew { Grew heap.old heap.new }
+    ensures cells { length heap.new ≤ length heap.old + count + 1 }
+    ensures refused { OnErr result (heap.new ≡ heap.old) }
+{
+    let mut refs = Vec::new(alloc);
+    'copies: for _ in 0..count {
+        refs.push(r)?;
+    }
+    heap.tuple(refs.as_slice())
+}
+
+// The same, made again where memory was refused.
+fn repeated_again(heap: &mut Heap, alloc: Global, r: Ref, count: usize) -> Result<Ref, HeapError>
+    requires room { length heap.old + count + 1 < most_cells }
+    requires held { Holds heap.old r }
+    ensures held { IfOk result (Holds heap.new) }
+    ensures grew { Grew heap.old heap.new }
+    ensures cells { length heap.new ≤ length heap.old + count + 1 }
+{
+    match repeated(heap, alloc, r, count) {
+        Ok(tuple) => Ok(tuple),
+        Err(HeapError::TooLarge) => Err(HeapError::TooLarge),
+        Err(HeapError::NoMemory) => repeated(heap, alloc, r, count),
+    }
+}
+
 #[test]
 fn a_term_is_made_at_a_limit_and_not_past_it(rt: HostRuntime) {
     for (around, times, size) in [
@@ -120,6 +156,17 @@ fn a_term_is_made_at_a_limit_and_not_past_it(rt: HostRuntime) {
 }
 
 #[test]
+fn a_tuple_has_at_most_1_048_575_elements(rt: HostRuntime) {
+    let (mut heap, one) = with_one(&rt, rt.alloc());
+    let largest = repeated_again(&mut heap, rt.alloc(), one, 1_048_575).expect(&rt, "it is small");
+    assert_eq!(rt; heap.size(largest), 1_048_576);
+    let before = heap.len();
+    let past = repeated_again(&mut heap, rt.alloc(), one, 1_048_576);
+    assert_eq!(rt; past, Err(HeapError::TooLarge));
+    assert_eq!(rt; heap.len(), before);
+}
+
+#[test]
 fn an_improper_list_goes_on(rt: HostRuntime) {
     let (mut heap, one) = with_one(&rt, rt.alloc());
     let pair = made(&rt, &mut heap, one, one, Around::List).expect(&rt, "within the limits");
@@ -127,4 +174,71 @@ fn an_improper_list_goes_on(rt: HostRuntime) {
     assert_eq!(rt; heap.view(longer), View::Cons(pair, pair));
     assert_eq!(rt; heap.view(pair), View::Cons(one, one));
     assert_eq!(rt; heap.view(one), View::Int(1));
+    assert!(rt; !heap.equal(one, pair));
+    assert_eq!(rt; heap.compare(one, pair), Ordering::Less);
+    assert_eq!(rt; heap.compare(longer, pair), Ordering::Greater);
+}
+
+fn word(rt: &impl Abort, alloc: Global, text: &[u8]) -> Result<Atom, HeapError> {
+    let text = Vec::from_slice(alloc, text)?;
+    Ok(Atom::new(text).expect(rt, "an atom's text"))
+}
+
+fn binary(alloc: Global, bytes: &[u8]) -> Result<Term, HeapError> {
+    Ok(bin(Bytes::new(Vec::from_slice(alloc, bytes)?)))
+}
+
+// The list of a term of each kind.
+fn every_kind(rt: &impl Abort, alloc: Global) -> Result<Term, HeapError> {
+    let mut env = Terms::new(alloc);
+    env.push(int(-7))?;
+    let origin = Origin {
+        module: word(rt, alloc, b"shop")?,
+        name: word(rt, alloc, b"total")?,
+        arity: 2,
+    };
+    let mut one = Terms::new(alloc);
+    one.push(nil())?;
+    let improper = list_with_tail(alloc, one, int(3))?;
+    let key = atom(word(rt, alloc, b"key")?);
+    let entry = map_of_one(alloc, key, binary(alloc, b"value")?)?;
+    let mut parts = Terms::new(alloc);
+    parts.push(closure(origin, env))?;
+    parts.push(pair(alloc, improper, entry)?)?;
+    Ok(list(alloc, parts)?)
+}
+
+// The term in the heap, loaded again where memory was refused.
+fn loaded(rt: &impl Abort, heap: &mut Heap, term: &Term) -> Result<Ref, HeapError>
+    requires room { length heap.old + cells_to_load term.now.node < most_cells }
+    ensures held { IfOk result (Holds heap.new) }
+    ensures grew { Grew heap.old heap.new }
+    ensures cells { length heap.new ≤ length heap.old + cells_to_load term.now.node }
+{
+    let before = heap.len();
+    match heap.load(term) {
+        Err(HeapError::NoMemory) => {
+            assert_eq!(rt; heap.len(), before);
+            heap.load(term)
+        }
+        made => made,
+    }
+}
+
+#[test]
+fn a_loaded_term_is_stored_again(rt: HostRuntime) {
+    let term = match every_kind(&rt, rt.alloc()) {
+        Ok(term) => term,
+        Err(_) => every_kind(&rt, rt.alloc()).expect(&rt, "memory is refused once"),
+    };
+    let mut heap = Heap::new(rt.alloc());
+    let first = loaded(&rt, &mut heap, &term).expect(&rt, "it is small");
+    let second = loaded(&rt, &mut heap, &term).expect(&rt, "it is small");
+    let stored = match heap.store(first) {
+        Ok(stored) => stored,
+        Err(_) => heap.store(first).expect(&rt, "memory is refused once"),
+    };
+    assert!(rt; stored == term);
+    assert!(rt; heap.equal(first, second));
+    assert_eq!(rt; heap.compare(first, second), Ordering::Equal);
 }

@@ -3,7 +3,6 @@ use Rattle.kh_arena.specs.Listed.{items}
 use Rattle.std.proofs.Common.{get_or}
 use Rattle.std.proofs.lemmas.Option.{get_or_from_slice_get}
 use Rattle.kh_heap.specs.Heap.{term_at}
-use Rattle.kh_heap.specs.Parts.{no_origin}
 use Rattle.kh_heap.specs.Cells.{Tables}
 use Rattle.kh_heap.proofs.Cells.{found-within, cell-of}
 use Rattle.kh_heap.proofs.Seen.{bin-number}

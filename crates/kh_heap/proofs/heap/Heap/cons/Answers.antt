@@ -1,4 +1,4 @@
-use Rattle.std.proofs.Common.{◌≡◌, ◌+◌, refl, ap, sym, subst, ◌∙◌}
+use Rattle.std.proofs.Common.{◌≡◌, ◌+◌, refl, sym, subst, ◌∙◌}
 use Rattle.kh_term.specs.Size.{size_of}
 use Rattle.kh_heap.specs.Cells.{Measured}
 use Rattle.kh_heap.specs.Heap.{term_at, cons_tree}

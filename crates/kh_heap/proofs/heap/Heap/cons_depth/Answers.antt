@@ -1,4 +1,4 @@
-use Rattle.std.proofs.Common.{◌+◌, max, arith, sym, ap, ◌∙◌, Fits, w32}
+use Rattle.std.proofs.Common.{arith, ap, ◌∙◌}
 use Rattle.kh_arena.specs.Listed.{items}
 use Rattle.std.proofs.Common.{◌≡◌}
 use Rattle.kh_term.specs.Size.{depth_of}

@@ -1,4 +1,3 @@
-use Rattle.std.proofs.Common.{◌∙◌}
 use Rattle.kh_arena.specs.Listed.{items}
 use Rattle.kh_heap.specs.Cells.{Tables}
 use Rattle.kh_heap.proofs.Cells.{found-within, cell-of}

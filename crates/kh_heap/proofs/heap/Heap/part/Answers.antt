@@ -1,4 +1,4 @@
-use Rattle.std.proofs.Common.{◌<◌, ◌^◌, arith, sym, ap, ◌∙◌, Fits, w32}
+use Rattle.std.proofs.Common.{arith, ap, ◌∙◌}
 use Rattle.kh_arena.specs.Listed.{items}
 use Rattle.std.proofs.Common.{◌+◌}
 use Rattle.kh_heap.specs.Heap.{term_at}

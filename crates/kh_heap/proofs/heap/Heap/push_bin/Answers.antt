@@ -1,10 +1,9 @@
-use Rattle.std.proofs.Common.{◌≡◌, ℕ, ◌+◌, ◌<◌, List, [], ◌∷◌, ◌++◌, length, get_or, refl, sym, ap, subst, ◌∙◌, arith}
+use Rattle.std.proofs.Common.{◌≡◌, [], ◌∷◌, ◌++◌, length, sym, ap, subst, ◌∙◌, arith}
 use Rattle.kh_arena.specs.Listed.{items}
 use Rattle.kh_term.specs.declared.tree.TermTree.TheVariants as tree
 use Rattle.kh_heap.specs.declared.cell.Cell.{Cell}
 use Rattle.kh_heap.specs.declared.cell.Kind.TheVariants as kind
-use Rattle.kh_heap.specs.Parts.{no_origin}
-use Rattle.kh_heap.specs.Cells.{Tables, Measured, run_at, heap_of, AreCells}
+use Rattle.kh_heap.specs.Cells.{Tables, Measured, heap_of, AreCells}
 use Rattle.kh_heap.proofs.Cells.{length-heap, more_binaries, heap-extends, AreCells-extends, number-last, are-pushed, heap-pushed}
 use Rattle.kh_heap.proofs.Growth.{on_err}
 use Rattle.kh_heap.proofs.heap.Heap.push_bin.Goals as goal

@@ -1,11 +1,6 @@
-use Rattle.std.proofs.Common.{◌≡◌, ℕ, ◌+◌, ◌<◌, List, [], ◌∷◌, ◌++◌, length, take, get_or, refl, sym, ap, subst, ◌∙◌, arith}
+use Rattle.std.proofs.Common.{[], ◌∷◌, ◌++◌, length, sym, ap, ◌∙◌, arith}
 use Rattle.kh_arena.specs.Listed.{items}
-use Rattle.kh_term.specs.declared.tree.TermTree.{TermTree}
-use Rattle.kh_term.specs.declared.tree.TermTree.TheVariants as tree
-use Rattle.kh_heap.specs.declared.cell.Cell.{Cell}
-use Rattle.kh_heap.specs.declared.cell.Kind.TheVariants as kind
-use Rattle.kh_heap.specs.Parts.{no_origin}
-use Rattle.kh_heap.specs.Cells.{Tables, Measured, run_at}
+use Rattle.kh_heap.specs.Cells.{Tables}
 use Rattle.kh_heap.proofs.Cells.{length-heap, are-copied, heap-copied}
 use Rattle.kh_heap.specs.Heap.{term_at}
 use Rattle.kh_heap.proofs.heap.Heap.push_copy.Goals as goal

@@ -1,4 +1,4 @@
-use Rattle.std.proofs.Common.{ℕ, ◌≤◌, [], ◌∷◌, ◌++◌, length, ap, sym, subst, ◌∙◌, arith, length-append}
+use Rattle.std.proofs.Common.{ℕ, ◌≤◌, [], ◌∷◌, length, ap, sym, subst, arith, length-append}
 use Rattle.kh_heap.specs.Heap.{term_at, Holds}
 use Rattle.kh_heap.proofs.Growth.{Grew-append, Grew-trans, Holds-grew}
 use Rattle.kh_heap.proofs.Settling.{length-so_far, grew-so_far, pair-pushed}

@@ -1,4 +1,4 @@
-use Rattle.std.proofs.Common.{[], ◌≡◌, ◌≤◌, length, get_or, arith, sym, subst, ap, ◌∙◌, Fits, w32}
+use Rattle.std.proofs.Common.{[], ◌≡◌, length, get_or, arith, sym, subst, ap, ◌∙◌}
 use Rattle.kh_arena.specs.Listed.{items}
 use Rattle.std.proofs.lemmas.Option.{get_or_from_slice_get}
 use Rattle.kh_term.specs.declared.tree.TermTree.TheVariants as tree
