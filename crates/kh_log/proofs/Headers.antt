@@ -74,7 +74,7 @@ length_read bytes at count header is four all =
     ap length_of (sym full ∙ is.bytes ∙ ap (λ n. take n (drop at bytes)) exact)
     ∙ length_of-take (drop at bytes) (omega (arith, is.count, four, all, length-drop at bytes))
 
-behind_is : (at after : ℕ) (bytes : List ℕ) (o : IsOpenAt at after bytes) → drop (at + 1) bytes ≡ o.behind
+pub behind_is : (at after : ℕ) (bytes : List ℕ) (o : IsOpenAt at after bytes) → drop (at + 1) bytes ≡ o.behind
 behind_is at after bytes o = sym (drop-drop 1 at bytes) ∙ ap (drop 1) o.there
 
 -- behind an open gate all four are there

@@ -1,14 +1,16 @@
 -- A walk from gate to gate, and what a file holds once it ends.
 use Rattle.std.proofs.Common.{◌≡◌, ℕ, zero, suc, ◌+◌, ◌<◌, ◌≤◌, List, [], ◌∷◌, ◌++◌, length, take, drop, Option, Some, None, refl, sym, ap, subst, inl, inr, ◌∙◌, arith, append_assoc, length-append, length-drop, length-take}
-use Rattle.std.specs.Prelude.{IfSome, slice_get}
+use Rattle.std.specs.Prelude.{IfSome, slice_get, option_map}
 use Rattle.std.proofs.lemmas.List.{drop_at, take_at, drop-drop}
 use Rattle.std.proofs.lemmas.Bool.{cases_lt}
 use Rattle.kh_io.specs.Told.{Told, Kept}
 use Rattle.kh_io.proofs.{told_both, told_map}
 use Rattle.kh_log.specs.Records.{open_gate, length_of, Content, content_of, content_from, records_of, lacking_in, span, IsClosedAt, IsOpenAt, LacksAt, record_at}
-use Rattle.kh_log.specs.Log.{Place, Holds, passed, EndsAt}
+use Rattle.kh_log.specs.Log.{Place, Holds, HasNext, passed, EndsAt}
 use Rattle.kh_log.proofs.Records.{behind_records, length_of-append, Front, with_records, with_records-is, content_of-front, content_of-short, nothing_behind, more_behind, lacking_step, front-append, length-front}
 use Rattle.kh_log.proofs.Append.{ends_at}
+use Rattle.kh_log.proofs.Headers.{behind_is, bytes_there}
+use Rattle.std.proofs.lemmas.Option.{same_Some}
 
 -- at this place, behind this many whole records, there is a gate
 pub record Stands (at count : ℕ) (bytes : List ℕ) : Type 0 where
@@ -112,15 +114,6 @@ told_short a b len short told = told_map a b told (λ x y is.
     let none = content_of-short x (omega (arith, is, short)) in
     (ap (λ (c : Content). c.lacking) none, sym (ap (λ (c : Content). span c.records) none), sym (ap (λ (c : Content). length c.records) none)))
 
--- two facts of a file that stays
-pub told_again : {P Q R : List ℕ → Type 0} (a b c : Option (List ℕ)) → Kept a b → Told a b (λ was _. P was) → Told b c (λ was _. Q was)
-    → ((was : List ℕ) → P was → Q was → R was) → Told a c (λ was _. R was)
-told_again {P} {Q} {R} (Some x) (Some y) (Some z) same p q is = is x p (subst Q same q)
-told_again None (Some y) (Some z) same p q is = absurd p
-told_again a None (Some z) same p q is = absurd q
-told_again (Some x) b None same p q is = tt
-told_again None b None same p q is = tt
-
 -- The record of this number of a log, behind its gate.
 pub record Nth (rs : List (List ℕ)) (k at : ℕ) (bytes : List ℕ) : Type 0 where
   pub bytes_of : List ℕ
@@ -210,16 +203,27 @@ next_ends log was holds lt =
     let n = next_record log was holds lt in
     omega (arith, n.more, n.least, holds.next, holds.last)
 
--- what was read where the record ends in time
-pub read_next : (log : Place) (r : List ℕ) (a b : Option (List ℕ)) → IfSome a (Holds log) → log.read < log.records
-    → Told a b (λ was _. (after : ℕ) → IsOpenAt log.next after was → after ≤ log.last → r ≡ record_at log.next was)
-    → Told a b (λ was _. slice_get (records_of was) log.read ≡ Some r)
-read_next log r (Some x) (Some y) holds lt told =
-    let n = next_record log x holds lt in
-    n.got ∙ ap (λ (l : List ℕ). Some l) (sym (told (log.next + 5 + length n.bytes_of) n.opened (next_ends log x holds lt) ∙ n.is))
-read_next log r None (Some y) holds lt told = absurd told
-read_next log r a None holds lt told = tt
+-- the length that stands behind its gate
+length_next : (log : Place) (was : List ℕ) (holds : Holds log was) (lt : log.read < log.records)
+    → length_of (drop (log.next + 1) was) ≡ length (next_record log was holds lt).bytes_of
+length_next log was holds lt =
+    let n = next_record log was holds lt in
+    omega (arith, n.opened.next, ap length_of (behind_is log.next (log.next + 5 + length n.bytes_of) was n.opened))
 
+pub told_length : (log : Place) (n : ℕ) (a b : Option (List ℕ)) → Kept a b → IfSome a (Holds log) → log.read < log.records
+    → Told a b (λ was _. n ≡ length_of (drop (log.next + 1) was)) → IfSome b (HasNext log n)
+told_length log n (Some x) (Some y) same holds lt is =
+    subst (HasNext log n) (sym same) (ap (option_map length) (next_record log x holds lt).got ∙ ap (λ (k : ℕ). Some k) (sym (is ∙ length_next log x holds lt)))
+told_length log n None (Some y) same holds lt told = absurd told
+told_length log n a None same holds lt told = tt
+
+-- a log that was found is found still
+pub holds_still : (log : Place) (a b : Option (List ℕ)) → Kept a b → IfSome a (Holds log) → IfSome b (Holds log)
+holds_still log (Some x) (Some y) same holds = subst (Holds log) (sym same) holds
+holds_still log None (Some y) same holds = absurd same
+holds_still log a None same holds = tt
+
+-- where no length stood there, or the record ends too late
 pub read_lacks : (log : Place) (a b : Option (List ℕ)) → IfSome a (Holds log) → log.read < log.records
     → Told a b (λ was _. (after : ℕ) → IsOpenAt log.next after was → after ≤ log.last → ⊥) → Told a b (λ _ _. ⊥)
 read_lacks log (Some x) (Some y) holds lt told =
@@ -228,11 +232,47 @@ read_lacks log (Some x) (Some y) holds lt told =
 read_lacks log None (Some y) holds lt told = absurd told
 read_lacks log a None holds lt told = tt
 
-pub read_holds : (log : Place) (r : List ℕ) (a b : Option (List ℕ)) → Kept a b → IfSome a (Holds log) → log.read < log.records
-    → Told a b (λ was _. (after : ℕ) → IsOpenAt log.next after was → after ≤ log.last → r ≡ record_at log.next was)
-    → IfSome b (Holds (passed log r))
-read_holds log r (Some x) (Some y) same holds lt told =
-    let n = next_record log x holds lt in
-    subst (Holds (passed log r)) (sym same) (holds_passed log x r holds lt (told (log.next + 5 + length n.bytes_of) n.opened (next_ends log x holds lt)))
-read_holds log r None (Some y) same holds lt told = absurd told
-read_holds log r a None same holds lt told = tt
+-- a length that was told is that one
+length_is : (log : Place) (n : ℕ) (was : List ℕ) (holds : Holds log was) → log.read < log.records → HasNext log n was → n ≡ length_of (drop (log.next + 1) was)
+length_is log n was holds lt has =
+    let next = next_record log was holds lt in
+    let same : length next.bytes_of ≡ n = same_Some (length next.bytes_of) n (sym (ap (option_map length) next.got) ∙ has) in
+    sym (length_next log was holds lt ∙ same)
+
+-- so many bytes behind the gate are the record
+bytes_are : (log : Place) (n : ℕ) (r was : List ℕ) (holds : Holds log was) → log.read < log.records → HasNext log n was → r ≡ take n (drop (log.next + 5) was)
+    → r ≡ record_at log.next was
+bytes_are log n r was holds lt has is = is ∙ ap (λ k. take k (drop (log.next + 5) was)) (length_is log n was holds lt has)
+
+-- what was read
+pub read_next : (log : Place) (n : ℕ) (r : List ℕ) (a b : Option (List ℕ)) → IfSome a (Holds log) → log.read < log.records → IfSome a (HasNext log n)
+    → Told a b (λ was _. r ≡ take n (drop (log.next + 5) was)) → Told a b (λ was _. slice_get (records_of was) log.read ≡ Some r)
+read_next log n r (Some x) (Some y) holds lt has is =
+    let next = next_record log x holds lt in
+    next.got ∙ ap (λ (l : List ℕ). Some l) (sym (bytes_are log n r x holds lt has is ∙ next.is))
+read_next log n r None (Some y) holds lt has told = absurd told
+read_next log n r a None holds lt has told = tt
+
+pub read_holds : (log : Place) (n : ℕ) (r : List ℕ) (a b : Option (List ℕ)) → Kept a b → IfSome a (Holds log) → log.read < log.records → IfSome a (HasNext log n)
+    → Told a b (λ was _. r ≡ take n (drop (log.next + 5) was)) → IfSome b (Holds (passed log r))
+read_holds log n r (Some x) (Some y) same holds lt has is =
+    subst (Holds (passed log r)) (sym same) (holds_passed log x r holds lt (bytes_are log n r x holds lt has is))
+read_holds log n r None (Some y) same holds lt has told = absurd told
+read_holds log n r a None same holds lt has told = tt
+
+-- all its bytes were there
+pub read_whole : (log : Place) (n : ℕ) (a b : Option (List ℕ)) → IfSome a (Holds log) → log.read < log.records → IfSome a (HasNext log n)
+    → Told a b (λ was _. length was < log.next + 5 + n) → Told a b (λ _ _. ⊥)
+read_whole log n (Some x) (Some y) holds lt has few =
+    let next = next_record log x holds lt in
+    bytes_there log.next (log.next + 5 + length next.bytes_of) n x next.opened (length_is log n x holds lt has) few
+read_whole log n None (Some y) holds lt has told = absurd told
+read_whole log n a None holds lt has told = tt
+
+-- a fact of a file behind a call that leaves it
+pub told_later : (Q : List ℕ → Type 0) (a b c : Option (List ℕ)) → Kept a b → Told b c (λ was _. Q was) → Told a c (λ was _. Q was)
+told_later Q (Some x) (Some y) (Some z) same q = subst Q same q
+told_later Q None (Some y) (Some z) same q = absurd same
+told_later Q a None (Some z) same q = absurd q
+told_later Q (Some x) b None same q = tt
+told_later Q None b None same q = tt

@@ -1,5 +1,5 @@
 -- A log that is open: where it stands in its file, and what an append leaves.
-use Rattle.std.specs.Prelude.{◌≡◌, ◌⊎◌, ℕ, ◌+◌, ◌≤◌, List, [], ◌∷◌, ◌++◌, length, take, Option, None, IfSome}
+use Rattle.std.specs.Prelude.{◌≡◌, ◌⊎◌, ℕ, ◌+◌, ◌<◌, ◌≤◌, List, [], ◌∷◌, ◌++◌, length, take, slice_get, Option, Some, None, option_map, IfSome}
 use Rattle.kh_io.specs.Disk.{put, Torn, IsSafe}
 use Rattle.kh_io.specs.View.{View}
 use Rattle.kh_log.specs.Records.{open_gate, log_of, Content, content_of, records_of, lacking_in, span, IsClosedAt}
@@ -41,6 +41,15 @@ passed log r = record {
   next = log.next + 5 + length r;
   last = log.last;
 }
+
+-- the next record of a log has so many bytes
+abbrev pub HasNext : Place → ℕ → List ℕ → Type 0
+HasNext log n bytes = option_map length (slice_get (records_of bytes) log.read) ≡ Some n
+
+-- a record of so many bytes is left to be read: it ends at the last gate or before
+pub record MayRead (log : Place) (n : ℕ) : Type 0 where
+  pub left : log.read < log.records
+  pub within : log.next + 5 + n ≤ log.last
 
 -- the log of a file that holds these records and no more, all of which count as read
 abbrev pub begun_at : ℕ → List (List ℕ) → Place

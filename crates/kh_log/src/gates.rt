@@ -2,7 +2,7 @@
 ghost use Rattle.std.specs.Prelude.{◌≡◌, ◌≤◌, ◌<◌, ◌+◌, ◌-◌, ◌*◌, ◌^◌, ℕ, List, length, take, drop, None, Some, IfSome, IfNone, IfOk, IsErrOf};
 ghost use Rattle.kh_io.specs.Disk.{IsReadAt};
 ghost use Rattle.kh_io.specs.Frames.{FileTold, Asks, DiskCause};
-ghost use Rattle.kh_log.specs.Records.{length_of, lacking_in, records_of, span, IsClosedAt, IsOpenAt, LacksAt, record_at};
+ghost use Rattle.kh_log.specs.Records.{length_of, lacking_in, records_of, span, IsClosedAt, IsOpenAt, LacksAt};
 ghost use Rattle.kh_log.specs.Log.{EndsAt};
 
 use crate::{LogError, OPEN};
@@ -130,44 +130,23 @@ pub(crate) fn count_records<D: Disk>(disk: &mut D, file: u8) -> Result<(u64, u64
     last_gate(disk, file, len)
 }
 
-/// The bytes of the record behind the open gate at this place, which ends at `last` at the latest.
-pub(crate) fn record_bytes<D: Disk>(
-    alloc: Global,
+/// The length behind the open gate at this place, of a record that ends at `last` at the latest.
+pub(crate) fn length_behind<D: Disk>(
     disk: &mut D,
     file: u8,
     at: u64,
     last: u64,
-) -> Result<Vec<u8>, LogError>
-    requires file { file < 4 }
-    requires within { at ≤ last }
-    requires fits { last < 2 ^ 64 - 1 }
-    ensures bytes { IfOk result (λ bytes. FileTold file (D.view disk.old) (D.view disk.new)
-        (λ was _. (after : ℕ) → IsOpenAt at after was → after ≤ last
-        → bytes.items ≡ record_at at was)) }
-    ensures bound { IfOk result (λ bytes. at + 5 + length bytes.items ≤ last) }
-    ensures lacks { (o : ℕ) → IsErrOf result (LogError.NotALog o)
-        → FileTold file (D.view disk.old) (D.view disk.new)
-        (λ was _. (after : ℕ) → IsOpenAt at after was → after ≤ last → ⊥) }
-    ensures asks { Asks (D.view disk.old) (D.view disk.new) }
-    ensures cause { DiskCause (IsErrOf result LogError.DiskFault) (D.view disk.old)
-        (D.view disk.new) }
-{
-    let length = length_behind(disk, file, at, last)?;
-    bytes_at(alloc, disk, file, at, length as usize)
-}
-
-// The length behind the open gate at this place, of a record that ends at `last` at the latest.
-fn length_behind<D: Disk>(disk: &mut D, file: u8, at: u64, last: u64) -> Result<u64, LogError>
+) -> Result<u64, LogError>
     requires file { file < 4 }
     requires within { at ≤ last }
     requires fits { last < 2 ^ 64 - 1 }
     ensures length { IfOk result (λ n. FileTold file (D.view disk.old) (D.view disk.new)
         (λ was _. n ≡ length_of (drop (at + 1) was))) }
     ensures bound { IfOk result (λ n. at + 5 + n ≤ last) }
-    ensures small { IfOk result (λ n. n < 2 ^ 32) }
     ensures lacks { (o : ℕ) → IsErrOf result (LogError.NotALog o)
         → FileTold file (D.view disk.old) (D.view disk.new)
         (λ was _. (after : ℕ) → IsOpenAt at after was → after ≤ last → ⊥) }
+    ensures enough_memory { IsErrOf result LogError.NoMemory → ⊥ }
     ensures asks { Asks (D.view disk.old) (D.view disk.new) }
     ensures cause { DiskCause (IsErrOf result LogError.DiskFault) (D.view disk.old)
         (D.view disk.new) }
@@ -184,8 +163,8 @@ fn length_behind<D: Disk>(disk: &mut D, file: u8, at: u64, last: u64) -> Result<
     Ok(length)
 }
 
-// So many bytes of the record behind the gate at this place.
-fn bytes_at<D: Disk>(
+/// So many bytes of the record behind the gate at this place.
+pub(crate) fn bytes_at<D: Disk>(
     alloc: Global,
     disk: &mut D,
     file: u8,

@@ -2,10 +2,10 @@
 ghost use Rattle.std.specs.Prelude.{◌≡◌, ◌≤◌, ◌<◌, ◌+◌, ◌^◌, ◌++◌, ℕ, List, [], length, slice_get, Some, IfSome, IfNone, IfOk, OnOk, OnErr, IsErr, IsErrOf};
 ghost use Rattle.kh_io.specs.Frames.{FileTold, Asks, Leaves, WritesFile, DiskCause};
 ghost use Rattle.kh_log.specs.Records.{records_of, lacking_in, log_of, IsClosedAt};
-ghost use Rattle.kh_log.specs.Log.{Place, Holds, EndsAt, MayGain, IsReady, IsSettled, AtEnd, moved, passed, begun_at, with_records};
+ghost use Rattle.kh_log.specs.Log.{Place, Holds, EndsAt, MayGain, HasNext, MayRead, IsReady, IsSettled, AtEnd, moved, passed, begun_at, with_records};
 
 use crate::durable::open_behind;
-use crate::gates::{count_records, record_bytes};
+use crate::gates::{bytes_at, count_records, length_behind};
 use crate::{LogError, Record};
 use kh_io::{Failed, Host};
 use std::alloc::Global;
@@ -105,11 +105,42 @@ impl Log {
         self.records
     }
 
+    /// The file that it stands in.
+    pub fn file(&self) -> u8
+        ensures is { result ≡ self.now.file }
+        ensures below { result < 4 }
+    {
+        self.file
+    }
+
     /// The place of the last gate.
     pub fn end(&self) -> u64
         ensures { result ≡ self.now.last }
     {
         self.last
+    }
+
+    /// The length of the next record, before its bytes are read; None once all records are read.
+    pub fn next_length<H: Host>(&self, host: &mut H) -> Result<Option<u64>, LogError>
+        requires found { IfSome ((H.view host.old).seen self.now.file) (Holds self.now) }
+        ensures next { IfOk result (λ r. IfSome r
+            (λ n. IfSome ((H.view host.new).seen self.now.file) (HasNext self.now n))) }
+        ensures some { IfOk result (λ r. IfSome r (MayRead self.now)) }
+        ensures holds { IfSome ((H.view host.new).seen self.now.file) (Holds self.now) }
+        ensures ended { IfOk result (λ r. IfNone r (self.now.read ≡ self.now.records)) }
+        // What `open` found lacks nothing.
+        ensures lacking { (o : ℕ) → IsErrOf result (LogError.NotALog o)
+            → FileTold self.now.file (H.view host.old) (H.view host.new) (λ _ _. ⊥) }
+        ensures enough_memory { IsErrOf result LogError.NoMemory → ⊥ }
+        ensures asks { Asks (H.view host.old) (H.view host.new) }
+        ensures cause { DiskCause (IsErrOf result LogError.DiskFault) (H.view host.old)
+            (H.view host.new) }
+    {
+        if self.read == self.records {
+            return Ok(None);
+        }
+        let length = length_behind(host, self.file, self.next, self.last)?;
+        Ok(Some(length))
     }
 
     /// The bytes of the next record; None once all are read.
@@ -135,13 +166,43 @@ impl Log {
         ensures cause { DiskCause (IsErrOf result LogError.DiskFault) (H.view host.old)
             (H.view host.new) }
     {
-        if self.read == self.records {
-            return Ok(None);
+        let _file = self.file;
+        match self.next_length(host)? {
+            None => Ok(None),
+            Some(length) => {
+                let bytes = self.read_record(alloc, host, length)?;
+                Ok(Some(bytes))
+            }
         }
-        let bytes = record_bytes(alloc, host, self.file, self.next, self.last)?;
-        self.next += 5 + bytes.len() as u64;
+    }
+
+    /// The bytes of the next record, whose length `next_length` told.
+    pub fn read_record<H: Host>(
+        &mut self,
+        alloc: Global,
+        host: &mut H,
+        length: u64,
+    ) -> Result<Vec<u8>, LogError>
+        requires found { IfSome ((H.view host.old).seen self.old.file) (Holds self.old) }
+        requires some { MayRead self.old length }
+        requires length { IfSome ((H.view host.old).seen self.old.file) (HasNext self.old length) }
+        ensures next { IfOk result (λ bytes. FileTold self.old.file (H.view host.old)
+            (H.view host.new)
+            (λ was _. slice_get (records_of was) self.old.read ≡ Some bytes.items)) }
+        ensures passed { IfOk result (λ bytes. self.new ≡ passed self.old bytes.items) }
+        ensures failed { OnErr result (self.new ≡ self.old) }
+        ensures holds { IfSome ((H.view host.new).seen self.old.file) (Holds self.new) }
+        // What `open` found lacks nothing.
+        ensures lacking { (o : ℕ) → IsErrOf result (LogError.NotALog o)
+            → FileTold self.old.file (H.view host.old) (H.view host.new) (λ _ _. ⊥) }
+        ensures asks { Asks (H.view host.old) (H.view host.new) }
+        ensures cause { DiskCause (IsErrOf result LogError.DiskFault) (H.view host.old)
+            (H.view host.new) }
+    {
+        let bytes = bytes_at(alloc, host, self.file, self.next, length as usize)?;
+        self.next += 5 + length;
         self.read += 1;
-        Ok(Some(bytes))
+        Ok(bytes)
     }
 
     /// Adds records behind the last. At `Ok` each crash from then on leaves them; at `DiskFault` the log may no longer be used.

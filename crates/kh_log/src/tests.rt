@@ -251,6 +251,23 @@ fn records_are_read_in_order(rt: HostRuntime) -> Result<(), Fail> {
     Ok(())
 }
 
+// The length of the first record of a log.
+fn first_length<H: Host>(host: &mut H) -> Result<Option<u64>, LogError> {
+    let log = Log::open(host, 1)?;
+    log.next_length(host)
+}
+
+#[test]
+fn a_length_is_told_before_its_record_is_read(rt: HostRuntime) -> Result<(), Fail> {
+    let alloc = rt.alloc();
+    let mut host = host(alloc, TWO, &[])?;
+    let length = first_length(&mut host)?;
+    assert_eq!(rt; length, Some(2));
+    // the length of the file, a read at each of three gates, and one of four bytes
+    assert_eq!(rt; host.calls(), 5);
+    Ok(())
+}
+
 fn held(record: &Option<Vec<u8>>) -> &[u8] {
     match record {
         Some(bytes) => bytes.as_slice(),

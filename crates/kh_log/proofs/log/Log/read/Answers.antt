@@ -1,42 +1,19 @@
-use Rattle.std.proofs.Common.{◌≡◌, ◌≤◌, ◌<◌, ◌+◌, ℕ, length, Err, sym, ap, subst, ◌∙◌, arith, rules, Vec}
-use Rattle.std.specs.declared.alloc.Global.{Global}
-use Rattle.std.specs.Prelude.{IsErrOf, IfSome}
-use Rattle.kh_io.specs.Told.{Told}
-use Rattle.kh_log.specs.declared.error.LogError.TheVariants.{NotALog}
-use Rattle.kh_log.specs.Records.{IsOpenAt, record_at}
-use Rattle.kh_log.specs.Log.{Place, Holds}
-use Rattle.kh_log.proofs.Walk.{read_next, read_lacks, read_holds}
+use Rattle.std.proofs.Common.{◌≡◌, ◌<◌, Some, ap, ◌∙◌, arith}
+use Rattle.std.specs.Prelude.{slice_get}
+use Rattle.kh_io.proofs.{asks_both}
+use Rattle.kh_log.specs.Records.{records_of}
+use Rattle.kh_log.specs.Log.{Place}
+use Rattle.kh_log.proofs.Walk.{told_later}
 use Rattle.kh_log.proofs.log.Log.read.Goals as goal
 
-pub returns-in_err-bytes-clause-lacking : goal.returns-in_err-bytes-clause-lacking
-returns-in_err-bytes-clause-lacking g c = λ o is.
-    let same : IsErrOf {T = Vec ℕ Global} (Err c.in_err-bytes.field-0.0) (NotALog o) = search rules in
-    let lt : c.args.self.now.read < c.args.self.now.records =
-    omega (arith, c.self.invariant.1, c.if-self.false, ap (λ (p : Place). p.read) c.self.view_is, ap (λ (p : Place). p.records) c.self.view_is) in
-    let P : Place → Type 0 = λ p. Told ((g.H.Disk.view c.args.host.now).seen p.file) ((g.H.Disk.view c.record_bytes.new.disk).seen p.file)
-    (λ was _. (after : ℕ) → IsOpenAt p.next after was → after ≤ p.last → ⊥) in
-    read_lacks c.args.self.now _ _ c.requires.found lt (subst P c.self.view_is (c.in_err-bytes.ensures.lacks o same))
-
-pub returns-clause-next : goal.returns-clause-next
-returns-clause-next g c =
-    let lt : c.args.self.now.read < c.args.self.now.records =
-    omega (arith, c.self.invariant.1, c.if-self.false, ap (λ (p : Place). p.read) c.self.view_is, ap (λ (p : Place). p.records) c.self.view_is) in
-    let P : Place → Type 0 = λ p. Told ((g.H.Disk.view c.args.host.now).seen p.file) ((g.H.Disk.view c.record_bytes.new.disk).seen p.file)
-    (λ was _. (after : ℕ) → IsOpenAt p.next after was → after ≤ p.last → c.in_ok-bytes.bytes.items ≡ record_at p.next was) in
-    read_next c.args.self.now c.in_ok-bytes.bytes.items _ _ c.requires.found lt (subst P c.self.view_is c.in_ok-bytes.ensures.bytes)
-
-pub returns-clause-holds : goal.returns-clause-holds
-returns-clause-holds g c =
-    let lt : c.args.self.now.read < c.args.self.now.records =
-    omega (arith, c.self.invariant.1, c.if-self.false, ap (λ (p : Place). p.read) c.self.view_is, ap (λ (p : Place). p.records) c.self.view_is) in
+pub returns-in_ok-bytes-in-Some-clause-next : goal.returns-in_ok-bytes-in-Some-clause-next
+returns-in_ok-bytes-in-Some-clause-next g c =
     let below : c.args.self.now.file < 4 = omega (arith, c.self.invariant.0, ap (λ (p : Place). p.file) c.self.view_is) in
-    let P : Place → Type 0 = λ p. Told ((g.H.Disk.view c.args.host.now).seen p.file) ((g.H.Disk.view c.record_bytes.new.disk).seen p.file)
-    (λ was _. (after : ℕ) → IsOpenAt p.next after was → after ≤ p.last → c.in_ok-bytes.bytes.items ≡ record_at p.next was) in
-    let there = read_holds c.args.self.now c.in_ok-bytes.bytes.items ((g.H.Disk.view c.args.host.now).seen c.args.self.now.file) ((g.H.Disk.view c.record_bytes.new.disk).seen c.args.self.now.file)
-    (c.record_bytes.ensures.asks.files c.args.self.now.file below).read c.requires.found lt (subst P c.self.view_is c.in_ok-bytes.ensures.bytes) in
-    let at : Place → ℕ → Place = λ p n. record { file = p.file; records = p.records; read = p.read + 1; next = n; last = p.last } in
-    let len : c.len.result ≡ length c.in_ok-bytes.bytes.items = omega (arith, c.len.ensures, c.in_ok-bytes.bytes.ok) in
-    let moved : c.self.inside.next + (5 + c.len.result) ≡ c.args.self.now.next + 5 + length c.in_ok-bytes.bytes.items =
-    omega (arith, len, ap (λ (p : Place). p.next) c.self.view_is) in
-    subst (λ (p : Place). IfSome ((g.H.Disk.view c.record_bytes.new.disk).seen c.args.self.now.file) (Holds p))
-    (sym (ap (λ (p : Place). at p (c.self.inside.next + (5 + c.len.result))) c.self.view_is ∙ ap (at c.args.self.now) moved)) there
+    told_later (λ was. slice_get (records_of was) c.args.self.now.read ≡ Some c.in_ok-bytes-in-Some.bytes.items) _ _ _
+    (c.next_length.ensures.asks.files c.args.self.now.file below).read c.in_ok-bytes-in-Some.ensures.next
+
+pub returns-in_err-bytes-in-Some-clause-asks : goal.returns-in_err-bytes-in-Some-clause-asks
+returns-in_err-bytes-in-Some-clause-asks g c = asks_both c.next_length.ensures.asks c.read_record.ensures.asks
+
+pub returns-in_ok-bytes-in-Some-clause-asks : goal.returns-in_ok-bytes-in-Some-clause-asks
+returns-in_ok-bytes-in-Some-clause-asks g c = asks_both c.next_length.ensures.asks c.read_record.ensures.asks
