@@ -99,12 +99,13 @@ gate_closed (Some was) (Some now) last bytes told = told.gate
 gate_closed None (Some now) last bytes told = absurd told
 gate_closed was None last bytes told = tt
 
-pub stands_after : (form : Form) (store next : Opened) (v w : View) (file : ℕ) (bytes : List ℕ) (more : List (List ℕ)) → file ≡ 1 → more ≡ bytes ∷ [] → Stands store v
+pub stands_after : (form : Form) (store next : Opened) (v w : View) (file : ℕ) (bytes : List ℕ) (more : List (List ℕ)) → file ≡ 1 → more ≡ bytes ∷ [] → next.failed ≡ false → Stands store v
     → FileTold file v w (λ was now. EndsAt next.place.last (records_of was ++ more) now) → IsSettled file next.place w → OthersStay file v w → NoneUntold w → state_of next ≡ store_after form (state_of store)
     → Replays (state_of store) (bytes ∷ []) (Recovered (store_after form (state_of store))) → Stands next w
-stands_after form store next v w file bytes more one is stands told settled others untold state replays =
+stands_after form store next v w file bytes more one is works stands told settled others untold state replays =
     let told' : FileTold 1 v w (λ was now. EndsAt next.place.last (records_of was ++ bytes ∷ []) now) = rw (one, is) at told in
     record {
+      works = works;
       safe = rw one at settled.safe;
       others = others_safe v w (rw one at others) untold stands.others;
       found = rw one at settled.found;
@@ -176,7 +177,7 @@ no_place path number sent store inside is same other =
 -- and the store's state is the one after it
 pub logged_state : (path : List Name) (number sent : ℤ) (store inside : Opened) (bytes : List ℕ) (nodes : List Node) (log : Place) (more : List (List ℕ)) → sent ≡ number → inside ≡ store
     → IsLogged path number (state_of store) bytes → nodes ≡ after (form.Put path sent) inside.nodes → log ≡ moved inside.place more → more ≡ bytes ∷ []
-    → state_of (record { nodes = nodes; place = log }) ≡ store_after (form.Put path number) (state_of store)
+    → record { nodes = nodes; span = log.last } ≡ store_after (form.Put path number) (state_of store)
 logged_state path number sent store inside bytes nodes log more is same logged applied appended one =
     let here : nodes ≡ after (form.Put path number) store.nodes =
     applied ∙ ap (λ (z : ℤ). after (form.Put path z) inside.nodes) is ∙ ap (λ (s : Opened). after (form.Put path number) s.nodes) same in

@@ -1,4 +1,4 @@
--- The command of a put: its width and its depth, and that its bytes are those of one put.
+-- The command of a put: its width, its depth and its length, and that its bytes are those of one put.
 use Rattle.std.proofs.Common.{◌≡◌, ◌<◌, ◌≤◌, ◌^◌, ◌-◌, ◌&&◌, nat_le, ℕ, zero, suc, ℤ, true, false, not, cond, IsTrue, List, [], ◌∷◌, ◌++◌, length, get_or, codes, map, Option, Some, None, IfOk, IfNone, Result, Ok, Err, inl, inr, IsSome, ◌↔◌, refl, ap, sym, ◌∙◌, arith}
 use Rattle.std.specs.List.{list_all}
 use Rattle.std.specs.Str.{bytes_eq}
@@ -12,14 +12,17 @@ use Rattle.kh_term.specs.declared.tree.TermTree.TheVariants as tree
 use Rattle.kh_term.specs.declared.tree.TermTree.TheVariants.{outs-Int, outs-Atom, outs-Bin, outs-Nil, outs-List, outs-Tuple}
 use Rattle.kh_term.specs.declared.tree.TermTree.TheOpen.{TermTree-F}
 use Rattle.kh_term.proofs.Tags.{tagged}
-use Rattle.kh_term.proofs.Layers.{width-Int, width-Atom, width-Bin, width-Nil, width-List, width-Tuple, width-Map, depth-Int, depth-Atom, depth-Bin, depth-Nil, depth-List, depth-Tuple, depth-Map}
+use Rattle.kh_term.proofs.Bounds.{packed_le_size}
+use Rattle.kh_term.proofs.Layers.{size-Int, size-Atom, size-Nil, size-List, size-Tuple, size-Map, width-Int, width-Atom, width-Bin, width-Nil, width-List, width-Tuple, width-Map, depth-Int, depth-Atom, depth-Bin, depth-Nil, depth-List, depth-Tuple, depth-Map}
+use Rattle.kh_term.specs.Lemmas.Fits.{sum-cons}
 use Rattle.kh_term.specs.Make.{name_tree, path_tree}
 use Rattle.kh_term.specs.Name.{has_name_length, is_name, is_path}
 use Rattle.kh_term.specs.Packed.{packed_of}
-use Rattle.kh_term.specs.Size.{width_of, depth_of, greatest, is_nil}
+use Rattle.kh_term.specs.Size.{size_of, sizes_of, width_of, depth_of, greatest, is_nil}
 use Rattle.kh_term.proofs.{one_spelling}
 use Rattle.kh_pack.specs.Standing.{IsPackedAt, IsUnlessMemory}
 use Rattle.kh_store.specs.Command.{put_parts, put_command, is_atom, is_atom_path, IsPut}
+use Rattle.kh_store.specs.State.{command_limit}
 
 -- ---- width
 
@@ -69,6 +72,47 @@ pub put_shallow : (path : List Name) (number : ℤ) → depth_of (put_command pa
 put_shallow path number =
     omega (arith, depth-Tuple (put_parts path number), depth-Atom (codes "put"), path_shallow path, depth-Int number, depth-Map [])
 
+-- ---- length
+
+pub untrue : false ≡ true → ⊥
+untrue e = cc
+
+-- a path of atoms is a path
+pub path_of_atoms : (path : List Name) → IsTrue (is_atom_path path) → IsTrue (is_path path)
+path_of_atoms path h = (and_parts (nat_le 1 (length path)) (is_path path) (and_parts (nat_le 1 (length path) && is_path path) (list_all is_atom path) h).0).1
+
+-- each name that is an atom has size 1
+names_small : (path : List Name) → IsTrue (list_all is_atom path) → sizes_of (map name_tree path) ≡ length path
+names_small [] h = refl
+names_small (name.Atom text ∷ path) h =
+    omega (arith, size-Atom text, sum-cons (size_of (tree.Atom text)) (map size_of (map name_tree path)), names_small path (and_parts (is_atom (name.Atom text)) (list_all is_atom path) h).1)
+names_small (name.Bin bytes ∷ path) h = absurd (untrue (and_parts (is_atom (name.Bin bytes)) (list_all is_atom path) h).0)
+
+path_small : (path : List Name) → IsTrue (is_path path) → IsTrue (list_all is_atom path) → size_of (path_tree path) ≤ 65
+path_small [] h atoms = omega (arith, size-Nil)
+path_small (n ∷ path) h atoms =
+    let p = and_parts (nat_le (length (n ∷ path)) 32) (list_all is_name (n ∷ path)) h in
+    omega (arith, size-List (map name_tree (n ∷ path)) tree.Nil, size-Nil, length-map (n ∷ path) name_tree, leb-true _ _ p.0, names_small (n ∷ path) atoms)
+
+-- a put's command is short
+pub put_short : (bytes : List ℕ) (path : List Name) (number : ℤ) → IsPut bytes path number → length bytes ≤ command_limit
+put_short bytes path number is =
+    let atoms = (and_parts (nat_le 1 (length path) && is_path path) (list_all is_atom path) is.names).1 in
+    omega (
+      arith,
+      ap (λ (b : List ℕ). length b) is.packed,
+      packed_le_size (put_command path number) is.term,
+      size-Tuple (put_parts path number),
+      size-Atom (codes "put"),
+      path_small path (path_of_atoms path is.names) atoms,
+      size-Int number,
+      size-Map [],
+      sum-cons (size_of (tree.Atom (codes "put"))) (size_of (path_tree path) ∷ size_of (tree.Int number) ∷ size_of (tree.Map []) ∷ []),
+      sum-cons (size_of (path_tree path)) (size_of (tree.Int number) ∷ size_of (tree.Map []) ∷ []),
+      sum-cons (size_of (tree.Int number)) (size_of (tree.Map []) ∷ []),
+      sum-cons (size_of (tree.Map [])) [],
+    )
+
 -- ---- one put
 
 -- equal trees have equal layers
@@ -115,10 +159,6 @@ command_same path other number last e =
     let integer : tree.Int number ≡ tree.Int last = cc parts in
     (path_same path other place, int_same number last integer)
 
--- a path of atoms is a path
-pub path_of_atoms : (path : List Name) → IsTrue (is_atom_path path) → IsTrue (is_path path)
-path_of_atoms path h = (and_parts (nat_le 1 (length path)) (is_path path) (and_parts (nat_le 1 (length path) && is_path path) (list_all is_atom path) h).0).1
-
 -- bytes are the command of one put at most
 pub put_is_one : (bytes : List ℕ) (path other : List Name) (number last : ℤ) → IsPut bytes path number → IsPut bytes other last → (path ≡ other) × (number ≡ last)
 put_is_one bytes path other number last first second =
@@ -141,9 +181,6 @@ no_names (x ∷ parts) zero part within is none (n ∷ names) same atoms =
 no_names (x ∷ parts) (suc i) part within is none (n ∷ names) same atoms =
     let rest : parts ≡ map name_tree names = cc in
     no_names parts i part (omega arith) is none names rest (and_parts (is_atom n) (list_all is_atom names) atoms).1
-
-pub untrue : false ≡ true → ⊥
-untrue e = cc
 
 -- no path of atoms has these names, where no path has them
 pub no_path : {A : Type 0} (made : Option A) (names : List Name) (parts : List TermTree) → (IsSome made ↔ IsTrue (is_path names)) → parts ≡ map name_tree names

@@ -1,5 +1,5 @@
 -- What a put makes of the tree.
-use Rattle.std.proofs.Common.{◌≡◌, ◌≢◌, ◌<◌, ◌≤◌, ◌+◌, ◌||◌, Bool, true, false, cond, ℕ, zero, suc, ℤ, List, [], ◌∷◌, length, take, drop, length-append, length-drop, take-append-drop, Option, Some, None, inl, inr, unwrap_or, eq-or-lt_of_le, refl, ap, sym, ◌∙◌, arith}
+use Rattle.std.proofs.Common.{◌≡◌, ◌≢◌, ◌<◌, ◌≤◌, ◌+◌, ◌||◌, Bool, true, false, cond, ℕ, zero, suc, ℤ, List, [], ◌∷◌, ◌++◌, length, take, drop, length-append, length-drop, take-append-drop, Option, Some, None, inl, inr, unwrap_or, eq-or-lt_of_le, refl, ap, sym, ◌∙◌, arith}
 use Rattle.std.specs.Prelude.{is_some, if◌then◌else◌}
 use Rattle.std.specs.Ordering.{is_eq, match_ordering}
 use Rattle.std.specs.BTreeMap.{insert_entry, is_at}
@@ -46,12 +46,12 @@ apart sought path differs =
 -- ---- nodes that are set
 
 -- a look-up is that of std's finite maps
-as_find : (nodes : List Node) (path : List Name) → node_at nodes path ≡ entries.find path_cmp path nodes
+pub as_find : (nodes : List Node) (path : List Name) → node_at nodes path ≡ entries.find path_cmp path nodes
 as_find [] path = refl
 as_find (e ∷ es) path = ap (cond (is_same path e.0) (Some e.1)) (as_find es path)
 
 -- so is what sets a node
-as_put : (path : List Name) (value : Option ℤ) (nodes : List Node) → insert_entry path_cmp nodes path value ≡ entries.put path_cmp path value nodes
+pub as_put : (path : List Name) (value : Option ℤ) (nodes : List Node) → insert_entry path_cmp nodes path value ≡ entries.put path_cmp path value nodes
 as_put path value [] = refl
 as_put path value (e ∷ es) =
     ap (λ (rest : List Node). match_ordering (path_cmp path e.0) ((path, value) ∷ e ∷ es) ((e.0, value) ∷ es) (e ∷ rest)) (as_put path value es)
@@ -96,6 +96,11 @@ node_at-with_nodes [] nodes sought = refl
 node_at-with_nodes (path ∷ paths) nodes sought =
     node_at-with_nodes paths (with_node nodes path) sought
     ∙ rw (node_at-with_node nodes path sought) (first_or_later (is_same sought path) (list_any (is_same sought) paths) (node_at nodes sought))
+
+-- one more node is made behind others
+pub with_nodes_behind : (paths : List (List Name)) (nodes : List Node) (path : List Name) → with_nodes nodes (paths ++ path ∷ []) ≡ with_node (with_nodes nodes paths) path
+with_nodes_behind [] nodes path = refl
+with_nodes_behind (first ∷ paths) nodes path = with_nodes_behind paths (with_node nodes first) path
 
 -- ---- the paths above
 

@@ -54,6 +54,7 @@ pub stands_stay : (store : Opened) (v w : View) → FilesStay v w → NoneUntold
 stands_stay store v w stay untold stands =
     let one = stay 1 (omega arith) in
     record {
+      works = stands.works;
       safe = kept_safe (v.seen 1) (w.seen 1) (v.image 1) (w.image 1) one (λ bytes none. untold 1 bytes (omega arith) none) stands.safe;
       others = others_safe v w (λ file lt other. stay file lt) untold stands.others;
       found = kept_some _ (v.seen 1) (w.seen 1) one.read stands.found;

@@ -21,6 +21,10 @@ empty = record { nodes = root; span = 0 }
 abbrev pub log_limit : ℕ
 log_limit = 134217728
 
+-- no command is longer than this as it is logged, in bytes
+abbrev pub command_limit : ℕ
+command_limit = 2097152
+
 -- whether the log has room for the record of a command: its length in four bytes, its bytes and a gate, behind the last gate
 abbrev pub log_has_room : Form → ℕ → Bool
 log_has_room (form.Put path number) span = nat_le (span + 6 + length (put_bytes path number)) log_limit

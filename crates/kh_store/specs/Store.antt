@@ -1,5 +1,6 @@
 -- A store that is open, and what a crash leaves while its calls run.
-use Rattle.std.specs.Prelude.{◌≡◌, ◌≢◌, ◌⊎◌, ℕ, ◌<◌, ◌≤◌, List, [], ◌∷◌, length, IfSome}
+use Rattle.std.specs.Prelude.{◌≡◌, ◌≢◌, ◌⊎◌, ℕ, ◌<◌, ◌≤◌, Bool, true, false, List, [], ◌∷◌, length, IfSome, IsTrue}
+use Rattle.kh_term.specs.declared.tree.TermTree.{TermTree}
 use Rattle.kh_io.specs.declared.files.Files.{Files}
 use Rattle.kh_io.specs.Disk.{IsSafe}
 use Rattle.kh_io.specs.View.{View}
@@ -8,26 +9,38 @@ use Rattle.kh_log.specs.Records.{records_of, IsClosedAt}
 use Rattle.kh_log.specs.Log.{Place, Holds}
 use Rattle.kh_read.specs.declared.form.Form.{Form}
 use Rattle.kh_store.specs.Tree.{Node}
-use Rattle.kh_store.specs.State.{State, empty, store_after}
+use Rattle.kh_store.specs.State.{State, empty, store_logs, store_reply, store_after}
 use Rattle.kh_store.specs.Recovery.{Recovered, Replays, Recovers}
 
--- The tree of a store that is open, and its place in the log.
+-- The tree of a store that is open, its place in the log, and whether the disk has failed in one of its calls.
 pub record Opened : Type 0 where
   pub nodes : List Node
   pub place : Place
+  pub failed : Bool
 
 -- its state
 abbrev pub state_of : Opened → State
 state_of store = record { nodes = store.nodes; span = store.place.last }
 
--- The store stands in its files: a crash leaves of each what a read gives. File 1, where that is told, is the log that the store's
--- calls found or left, with its last gate closed, and recovers to the store's state.
+-- The store stands in its files: the disk hasn't failed in its calls, and a crash leaves of each file what a read gives. File 1, where
+-- that is told, is the log that the store's calls found or left, with its last gate closed, and recovers to the store's state.
 pub record Stands (store : Opened) (v : View) : Type 0 where
+  pub works : store.failed ≡ false
   pub safe : IsSafe (v.seen 1) (v.image 1)
   pub others : (file : ℕ) → file < 4 → file ≢ 1 → IsSafe (v.seen file) (v.image file)
   pub found : IfSome (v.seen 1) (Holds store.place)
   pub closed : IfSome (v.seen 1) (IsClosedAt store.place.last)
   pub recovers : IfSome (v.seen 1) (λ bytes. Replays empty (records_of bytes) (Recovered (state_of store)))
+
+-- a command was executed: its reply, and the state after it
+abbrev pub Executes : Form → (old new : State) → TermTree → Type 0
+Executes form old new reply = (reply ≡ store_reply form old) × (new ≡ store_after form old)
+
+-- The disk has failed in a command that is logged: the state is as before it, and no other command will be executed.
+pub record LeavesInDoubt (form : Form) (old new : Opened) : Type 0 where
+  pub logged : IsTrue (store_logs form (state_of old))
+  pub same : state_of new ≡ state_of old
+  pub failed : new.failed ≡ true
 
 -- a file of fewer than 2 bytes, which holds no record
 abbrev pub IsShort : List ℕ → Type 0

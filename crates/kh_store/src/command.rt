@@ -7,9 +7,10 @@ ghost use Rattle.kh_term.specs.Make.{name_tree, path_tree};
 ghost use Rattle.kh_store.specs.Machine.{word};
 ghost use Rattle.kh_store.specs.Command.{put_parts, put_command, put_bytes, is_atom, is_atom_path, IsPut};
 
-use crate::machine::word;
 use kh_pack::{UnpackError, pack, unpack};
-use kh_term::{Name, NoMemory, Pairs, Path, Term, TermTree, Terms, int, map, path_term, tuple};
+use kh_term::{
+    Name, NoMemory, Pairs, Path, Term, TermTree, Terms, int, map, path_term, tuple, word,
+};
 use std::alloc::Global;
 
 /// The bytes of a put as it is logged.

@@ -11,7 +11,7 @@ mod tree;
 
 pub use command::{pack_put, read_put};
 pub use laws::{one_put, one_recovery};
-pub use machine::{Applied, triple, word};
+pub use machine::Applied;
 pub use store::{OpenError, Store, StoreError};
 pub use tree::Tree;
 

@@ -1,5 +1,5 @@
 //! One command on the tree, and its reply.
-ghost use Rattle.std.specs.Prelude.{◌≡◌, Option, IfOk, OnOk, OnErr, codes, [], ◌∷◌, ◌≤◌, length};
+ghost use Rattle.std.specs.Prelude.{◌≡◌, IfOk, is_some, unwrap_or, codes, [], ◌∷◌};
 ghost use Rattle.kh_term.specs.declared.tree.TermTree.TheVariants as tree;
 ghost use Rattle.kh_term.specs.Make.{path_tree};
 ghost use Rattle.kh_read.specs.declared.form.Form.TheVariants as form;
@@ -7,57 +7,52 @@ ghost use Rattle.kh_store.specs.Machine.{word, ok_with, node_not_found, answer_o
 
 use crate::tree::Tree;
 use kh_read::Form;
-use kh_term::{Atom, NoMemory, Path, Term, Terms, atom, int, map_of_one, path_term, tuple};
+use kh_term::{NoMemory, Path, Term, int, map_of_one, pair, path_term, triple, word};
 use std::alloc::Global;
 
 /// What came of a command.
 #[derive(Drop)]
 pub struct Applied {
     pub reply: Term,
-    /// Whether it is one that is logged.
-    pub logged: bool,
+    /// The tree that it leaves, where it is one that is logged.
+    pub tree: Option<Tree>,
 }
 
 impl Tree {
-    /// Executes a form.
-    pub fn apply(&mut self, alloc: Global, form: Form) -> Result<Applied, NoMemory>
-        ensures reply { IfOk result (λ applied. applied.reply.node ≡ reply_to form self.old) }
-        ensures logged { IfOk result (λ applied. applied.logged ≡ is_logged form self.old) }
-        ensures after { OnOk result (self.new ≡ after form self.old) }
-        ensures err { OnErr result (self.new ≡ self.old) }
+    /// What comes of a form.
+    pub fn apply(&self, alloc: Global, form: Form) -> Result<Applied, NoMemory>
+        ensures reply { IfOk result (λ applied. applied.reply.node ≡ reply_to form self.now) }
+        ensures logged { IfOk result (λ applied. is_some applied.tree ≡ is_logged form self.now) }
+        ensures after { IfOk result (λ applied. unwrap_or applied.tree self.now ≡ after form
+            self.now) }
     {
         match form {
             Form::Put(path, number) => self.apply_put(alloc, path, number),
             Form::Get(path) => {
                 let reply = answer(alloc, self.get(&path), &path)?;
-                Ok(Applied {
-                    reply,
-                    logged: false,
-                })
+                Ok(Applied { reply, tree: None })
             }
         }
     }
 
     // Sets the data of a node, where there is room.
-    fn apply_put(&mut self, alloc: Global, path: Path, number: i128) -> Result<Applied, NoMemory>
+    fn apply_put(&self, alloc: Global, path: Path, number: i128) -> Result<Applied, NoMemory>
         ensures reply { IfOk result (λ applied. applied.reply.node ≡ reply_to
-            (form.Put path number) self.old) }
-        ensures logged { IfOk result (λ applied. applied.logged ≡ is_logged
-            (form.Put path number) self.old) }
-        ensures after { OnOk result (self.new ≡ after (form.Put path number) self.old) }
-        ensures err { OnErr result (self.new ≡ self.old) }
+            (form.Put path number) self.now) }
+        ensures logged { IfOk result (λ applied. is_some applied.tree ≡ is_logged
+            (form.Put path number) self.now) }
+        ensures after { IfOk result (λ applied. unwrap_or applied.tree self.now ≡ after
+            (form.Put path number) self.now) }
     {
-        let done = word(alloc, "ok")?;
-        if self.put(path, number)? {
-            Ok(Applied {
-                reply: done,
-                logged: true,
-            })
-        } else {
-            Ok(Applied {
+        match self.with_put(path, number)? {
+            Some(tree) => Ok(Applied {
+                reply: word(alloc, "ok")?,
+                tree: Some(tree),
+            }),
+            None => Ok(Applied {
                 reply: store_full(alloc)?,
-                logged: false,
-            })
+                tree: None,
+            }),
         }
     }
 }
@@ -69,39 +64,6 @@ pub fn store_full(alloc: Global) -> Result<Term, NoMemory>
     let error = word(alloc, "error")?;
     let full = word(alloc, "store_full")?;
     Ok(pair(alloc, error, full)?)
-}
-
-/// The atom of a word of at most 255 bytes.
-pub fn word(alloc: Global, text: &str) -> Result<Term, NoMemory>
-    requires { length text.now ≤ 255 }
-    ensures { IfOk result (λ term. term.node ≡ word text.now) }
-{
-    match Atom::new(Vec::from_slice(alloc, text.as_bytes())?) {
-        Some(text) => Ok(atom(text)),
-        None => unreachable!(),
-    }
-}
-
-// A tuple of two.
-fn pair(alloc: Global, first: Term, second: Term) -> Result<Term, NoMemory>
-    ensures { IfOk result (λ term. term.node ≡ tree.Tuple (first.node ∷ second.node ∷ [])) }
-{
-    let mut parts = Terms::new(alloc);
-    parts.push(first)?;
-    parts.push(second)?;
-    Ok(tuple(parts))
-}
-
-/// A tuple of three.
-pub fn triple(alloc: Global, first: Term, second: Term, third: Term) -> Result<Term, NoMemory>
-    ensures { IfOk result (λ term. term.node ≡ tree.Tuple
-        (first.node ∷ second.node ∷ third.node ∷ [])) }
-{
-    let mut parts = Terms::new(alloc);
-    parts.push(first)?;
-    parts.push(second)?;
-    parts.push(third)?;
-    Ok(tuple(parts))
 }
 
 // `{ok,Value}`

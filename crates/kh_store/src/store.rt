@@ -1,5 +1,5 @@
 //! The store: the tree, and the log that keeps it over a crash.
-ghost use Rattle.std.specs.Prelude.{◌≡◌, ◌≢◌, ◌<◌, ◌++◌, ℕ, IsTrue, IfOk, OnOk, Err};
+ghost use Rattle.std.specs.Prelude.{◌≡◌, ◌≢◌, ◌↔◌, ◌⊎◌, ◌<◌, ◌++◌, ℕ, IsTrue, IfOk, OnOk, Err, true, false};
 ghost use Rattle.kh_io.specs.Told.{Kept};
 ghost use Rattle.kh_io.specs.Frames.{FileTold, FilesTold, AreSafe, During, StreamsStay, WritesFile, DiskCause};
 ghost use Rattle.kh_log.specs.Records.{records_of};
@@ -9,12 +9,12 @@ ghost use Rattle.kh_store.specs.declared.store.OpenError.TheVariants as open_err
 ghost use Rattle.kh_store.specs.declared.store.StoreError.TheVariants as store_error;
 ghost use Rattle.kh_store.specs.Opening.{opening_error};
 ghost use Rattle.kh_store.specs.Command.{is_command, is_atom_path};
-ghost use Rattle.kh_store.specs.State.{store_logs, records_logged, store_reply, store_after};
+ghost use Rattle.kh_store.specs.State.{records_logged};
 ghost use Rattle.kh_store.specs.Recovery.{Recovered, Damaged, Recovers};
-ghost use Rattle.kh_store.specs.Store.{state_of, Stands, StaysOrShort, Begun, Opening, Executing};
+ghost use Rattle.kh_store.specs.Store.{state_of, Stands, StaysOrShort, Begun, Opening, Executing, Executes, LeavesInDoubt};
 
 use crate::command::pack_put;
-use crate::machine::store_full;
+use crate::machine::{Applied, store_full};
 use crate::opening::{begin_log, sync_all};
 use crate::replay::{has_room, replay};
 use crate::tree::Tree;
@@ -69,9 +69,12 @@ impl From<LogError> for OpenError {
 /// Why a command wasn't executed.
 #[derive(Clone, Copy, Debug, PartialEq, Eq, Drop, Error)]
 pub enum StoreError {
-    /// The disk has failed, and the store may no longer be used.
+    /// The disk has failed in this call. The command is in doubt until the store is opened anew.
     #[error("the disk has failed")]
     DiskFault,
+    /// The disk has failed in an earlier call of this store.
+    #[error("the disk has failed before")]
+    Failed,
     #[error("out of memory")]
     NoMemory,
 }
@@ -98,6 +101,7 @@ pub struct Store {
     alloc: Global,
     tree: Tree,
     log: Log,
+    failed: bool,
 }
 
 impl Model for Store {
@@ -106,7 +110,7 @@ impl Model for Store {
 
     ghost Value = { Opened };
 
-    ghost view = { λ s. record { nodes = s.tree; place = s.log } };
+    ghost view = { λ s. record { nodes = s.tree; place = s.log; failed = s.failed } };
 
     ghost invariant = { λ s. (s.log.file ≡ 1) × (s.log.read ≡ s.log.records) };
 }
@@ -136,29 +140,40 @@ impl Store {
         begin_log(host)?;
         let mut log = Log::open(host, 1)?;
         let tree = replay(alloc, host, &mut log)?;
-        Ok(Store { alloc, tree, log })
+        Ok(Store {
+            alloc,
+            tree,
+            log,
+            failed: false,
+        })
     }
 
-    /// Executes a command, and gives its reply once it is safe in the log.
+    /// Executes a command, and gives its reply once it is safe in the log. After `DiskFault` the store's state is as it was, and each
+    /// later call answers `Failed`.
     pub fn execute<H: Host>(&mut self, host: &mut H, form: Form) -> Result<Term, StoreError>
-        requires stands { Stands self.old (H.view host.old) }
+        requires stands { self.old.failed ≡ false → Stands self.old (H.view host.old) }
         requires command { IsTrue (is_command form) }
-        ensures reply { IfOk result (λ reply. reply.node ≡ store_reply form (state_of self.old)) }
-        ensures after { OnOk result (state_of self.new ≡ store_after form (state_of self.old)) }
+        ensures executed { IfOk result (λ reply. Executes form (state_of self.old)
+            (state_of self.new) reply.node) }
         ensures stands { OnOk result (Stands self.new (H.view host.new)) }
         // The log gains the record of a command that is logged.
         ensures added { OnOk result (FileTold 1 (H.view host.old) (H.view host.new)
             (λ was now. records_of now ≡ records_of was ++ records_logged form
             (state_of self.old))) }
-        ensures no_memory { result ≡ Err store_error.NoMemory → (self.new ≡ self.old)
-            × (host.new ≡ host.old) }
+        ensures failed { (result ≡ Err store_error.Failed) ↔ (self.old.failed ≡ true) }
+        ensures refused { (result ≡ Err store_error.NoMemory) ⊎ (result ≡ Err store_error.Failed)
+            → (self.new ≡ self.old) × (host.new ≡ host.old) }
         ensures in_doubt { result ≡ Err store_error.DiskFault
-            → IsTrue (store_logs form (state_of self.old)) }
-        ensures writes { WritesFile 1 (Executing form (state_of self.old) (H.view host.old).stamp)
+            → LeavesInDoubt form self.old self.new }
+        ensures writes { self.old.failed ≡ false → WritesFile 1
+            (Executing form (state_of self.old) (H.view host.old).stamp)
             (H.view host.old) (H.view host.new) }
         ensures cause { DiskCause (result ≡ Err store_error.DiskFault) (H.view host.old)
             (H.view host.new) }
     {
+        if self.failed {
+            return Err(StoreError::Failed);
+        }
         match form {
             Form::Get(path) => Ok(self.tree.apply(self.alloc, Form::Get(path))?.reply),
             Form::Put(path, number) => self.execute_put(host, path, number),
@@ -174,19 +189,17 @@ impl Store {
     ) -> Result<Term, StoreError>
         requires stands { Stands self.old (H.view host.old) }
         requires command { IsTrue (is_atom_path path) }
-        ensures reply { IfOk result (λ reply. reply.node ≡ store_reply (form.Put path number)
-            (state_of self.old)) }
-        ensures after { OnOk result (state_of self.new ≡ store_after (form.Put path number)
-            (state_of self.old)) }
+        ensures executed { IfOk result (λ reply. Executes (form.Put path number)
+            (state_of self.old) (state_of self.new) reply.node) }
         ensures stands { OnOk result (Stands self.new (H.view host.new)) }
-        // The log gains the record of a command that is logged.
         ensures added { OnOk result (FileTold 1 (H.view host.old) (H.view host.new)
             (λ was now. records_of now ≡ records_of was ++ records_logged (form.Put path number)
             (state_of self.old))) }
+        ensures not_failed { result ≡ Err store_error.Failed → ⊥ }
         ensures no_memory { result ≡ Err store_error.NoMemory → (self.new ≡ self.old)
             × (host.new ≡ host.old) }
         ensures in_doubt { result ≡ Err store_error.DiskFault
-            → IsTrue (store_logs (form.Put path number) (state_of self.old)) }
+            → LeavesInDoubt (form.Put path number) self.old self.new }
         ensures writes { WritesFile 1 (Executing (form.Put path number) (state_of self.old)
             (H.view host.old).stamp) (H.view host.old) (H.view host.new) }
         ensures cause { DiskCause (result ≡ Err store_error.DiskFault) (H.view host.old)
@@ -198,12 +211,19 @@ impl Store {
         }
         let record = prepare(self.alloc, bytes)?;
         let applied = self.tree.apply(self.alloc, Form::Put(path, number))?;
-        if !applied.logged {
-            return Ok(applied.reply);
-        }
+        let Applied { reply, tree } = applied;
+        let Some(tree) = tree else {
+            return Ok(reply);
+        };
         match self.log.append(host, &record) {
-            Ok(()) => Ok(applied.reply),
-            Err(_) => Err(StoreError::DiskFault),
+            Ok(()) => {
+                self.tree = tree;
+                Ok(reply)
+            }
+            Err(_) => {
+                self.failed = true;
+                Err(StoreError::DiskFault)
+            }
         }
     }
 }

@@ -1,4 +1,4 @@
-use Rattle.std.proofs.Common.{◌≡◌, ◌<◌, Err, Some, sym, ap, arith}
+use Rattle.std.proofs.Common.{◌≡◌, ◌<◌, Err, Some, refl, sym, ap, arith}
 use Rattle.kh_io.specs.Disk.{TellsFiles}
 use Rattle.kh_io.proofs.{both, weakened, asks_both, stays_both, streams_both}
 use Rattle.kh_log.specs.Records.{records_of, lacking_in}
@@ -115,6 +115,7 @@ returns-clause-stands g c =
     let begun = log_safe v w c.in_ok-sync_all.ensures.safe c.begin_log.ensures.writes.others c.in_ok-begin_log.ensures.safe (untold c.begin_log.new.host) in
     let safe = all_safe x (host.view c.replay.new.host) (all_safe w x begun c.open.ensures.asks.files (untold c.open.new.host)) c.replay.ensures.asks.files (untold c.replay.new.host) in
     record {
+      works = refl;
       safe = still_safe c.in_ok-begin_log.ensures.safe stay.read stay.only (λ bytes. g.met.H.Disk.untold_is_not_left c.replay.new.host 1 bytes one);
       found = c.replay.ensures.holds;
       closed = closed_there _ _ _ _ c.in_ok-log.log c.replay.new.log.last c.in_ok-begin_log.ensures.begun opened.read c.in_ok-log.ensures.found
