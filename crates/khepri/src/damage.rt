@@ -8,8 +8,7 @@ use crate::output::give_all;
 use crate::session::Stop;
 use kh_io::Host;
 use kh_print::print_line;
-use kh_store::{triple, word};
-use kh_term::{NoMemory, Term, int};
+use kh_term::{NoMemory, Term, int, triple, word};
 use std::alloc::Global;
 
 /// Gives the line of a damage, and returns why the run ends.

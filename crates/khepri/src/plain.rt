@@ -41,5 +41,8 @@ fn add_reply(alloc: Global, text: &mut Vec<u8>, tree: &mut Tree, form: Form) -> 
     let applied = tree.apply(alloc, form)?;
     let line = print_line(alloc, &applied.reply)?;
     text.extend_from_slice(&line)?;
+    if let Some(next) = applied.tree {
+        *tree = next;
+    }
     Ok(())
 }

@@ -61,6 +61,8 @@ pub fn answer<H: Host>(
         Ok(reply) => reply,
         Err(StoreError::DiskFault) => return Err(Stop::DiskFault),
         Err(StoreError::NoMemory) => return Err(Stop::NoMemory),
+        // It stands, so the disk hasn't failed before.
+        Err(StoreError::Failed) => unreachable!(),
     };
     let Ok(line) = print_line(alloc, &reply) else {
         return Err(Stop::NoMemory);

@@ -304,6 +304,27 @@ fn a_record_that_is_no_command_is_damage(rt: HostRuntime) -> Result<(), Fail> {
     Ok(())
 }
 
+// A put, and behind it a record of one byte more than any command has.
+fn too_long(alloc: Global) -> Result<Vec<u8>, Fail> {
+    let mut log = log_of(alloc, &[PUT])?;
+    log.resize(37, 0)?;
+    log.extend_from_slice(b"\xa5\0\x20\0\x01")?;
+    log.resize(42 + 2_097_153 + 1, 0)?;
+    Ok(log)
+}
+
+#[test]
+fn a_record_longer_than_any_command_is_not_read(rt: HostRuntime) -> Result<(), Fail> {
+    let alloc = rt.alloc();
+    let files = files_of(alloc, &too_long(alloc)?)?;
+    let mut host = host_over(alloc, files, GET_STOCK, &[])?;
+    assert_eq!(rt; run(alloc, &mut host)?, 1);
+    assert_eq!(rt; host.output(), b"{damaged,1,38}.\n".as_slice());
+    // Four syncs, two lengths, three gates, the two reads of the put, the length of the record, and the line.
+    assert_eq!(rt; host.calls(), 13);
+    Ok(())
+}
+
 // A log, and how the program answers `{get,[stock]}.` over it.
 struct Row {
     log: &'static [u8],
