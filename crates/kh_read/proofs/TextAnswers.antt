@@ -1,4 +1,4 @@
--- What a form's reading says of the bytes, in a script: which form they are, that they begin one, or which fault is met.
+-- What a form's reading says of the bytes: which form they are, that they begin one, or which fault is met.
 use Rattle.std.proofs.Common.{◌≡◌, ◌≤◌, ◌<◌, ℕ, zero, suc, ◌+◌, Bool, true, false, not, ◌&&◌, cond, ltb, List, [], ◌∷◌, ◌++◌, length, take, drop, inl, inr, refl, sym, ap, subst, ◌∙◌, arith, append_assoc, IsTrue}
 use Rattle.std.specs.Prelude.{◌⊎◌}
 use Rattle.std.proofs.Math.Seq.{take-append_seam, take-append-add, drop-append_seam}
@@ -7,7 +7,6 @@ use Rattle.std.proofs.lemmas.List.{append-nil, length-append}
 use Rattle.kh_term.specs.declared.tree.TermTree.{TermTree}
 use Rattle.kh_term.specs.Size.{size_of}
 use Rattle.kh_text_defs.specs.declared.mode.Mode.{Mode}
-use Rattle.kh_text_defs.specs.declared.mode.Mode.TheVariants.{Script}
 use Rattle.kh_text_defs.specs.Blanks.{may_follow}
 use Rattle.kh_text_defs.specs.Faults.{max_levels, max_size, Begins, BeginsWithin, BeginsAnyhow, StopsAt, SyntaxFaultAt}
 use Rattle.kh_text_defs.specs.Spelled.{Rules, IsForm}
@@ -51,13 +50,13 @@ data FormRead (σ : Setting) (text : List ℕ) (t : TermTree) (p : ℕ) (r : Rea
   as_it_is : (σ.sized && ltb max_size (size_of t)) ≡ false → r ≡ Ended t (p + length text) → FormRead σ text t p r
   too_large : (q : ℕ) → (σ.sized && ltb max_size (size_of t)) ≡ true → r ≡ Halted Large q → FormRead σ text t p r
 
-module _ (σ : Setting) (script : σ.rules.mode ≡ Script) where
+module _ (σ : Setting) where
   form_reads : (text rest : List ℕ) (t : TermTree) (p : ℕ) → IsForm σ.rules σ.levels text t → may_follow rest ≡ true → FormRead σ text t p (read_on σ fresh p (text ++ rest))
   form_reads text rest t p h follows = go (σ.sized && ltb max_size (size_of t)) refl
     where
       go : (big : Bool) → (σ.sized && ltb max_size (size_of t)) ≡ big → FormRead σ text t p (read_on σ fresh p (text ++ rest))
-      go true e = let k = large_form σ script text rest t p h e in too_large k.0 e k.1
-      go false e = as_it_is e (form_read σ script text rest t p h e follows)
+      go true e = let k = large_form σ text rest t p h e follows in too_large k.0 e k.1
+      go false e = as_it_is e (form_read σ text rest t p h e follows)
 
   module _ (reached : State) (p : ℕ) (front : List ℕ) (path : Path σ reached fresh p front) where
     front_read : read_on σ fresh p front ≡ at_end reached.place reached.frames (p + length front)
@@ -74,7 +73,7 @@ module _ (σ : Setting) (script : σ.rules.mode ≡ Script) where
 
     -- bytes with which reading goes on begin a form
     pub begins_of : Begins σ.rules σ.levels front
-    begins_of = go (forms σ script p front)
+    begins_of = go (forms σ p front)
       where
         longer : (u rest : List ℕ) (b q : ℕ) → front ≡ u ++ b ∷ rest → q ≡ p + length u → q ≡ p + length front → ⊥
         longer u rest b q parts place end =
@@ -120,29 +119,29 @@ module _ (σ : Setting) (script : σ.rules.mode ≡ Script) where
         where
           go : (f : Bool) → may_follow (b ∷ behind) ≡ f → f ≡ false
           go false e = refl
-          go true e = absurd (let clash : Ended t (p + length front) ≡ Halted halt (p + length front) = sym (form_read σ script front (b ∷ behind) t p h (ended_small t h) e) ∙ halts behind in cc)
+          go true e = absurd (let clash : Ended t (p + length front) ≡ Halted halt (p + length front) = sym (form_read σ front (b ∷ behind) t p h (ended_small t h) e) ∙ halts behind in cc)
 
 -- ---- the reading within all limits
 
-abbrev pub within : Setting
-within = make Script true max_levels true
+abbrev pub within : Mode → Setting
+within mode = make mode true max_levels true
 
 first_of : (front : List ℕ) (b : ℕ) (behind : List ℕ) → take (length front + 1) (front ++ b ∷ behind) ≡ front ++ b ∷ []
 first_of front b behind = take-append-add front (b ∷ behind) 1
 
-module _ (reached : State) (p : ℕ) (front : List ℕ) (path : Path within reached fresh p front) (b : ℕ) (behind : List ℕ) where
+module _ (mode : Mode) (reached : State) (p : ℕ) (front : List ℕ) (path : Path (within mode) reached fresh p front) (b : ℕ) (behind : List ℕ) where
   small_enough : (t : TermTree) → ltb max_size (size_of t) ≡ false → size_of t ≤ max_size
   small_enough t e = ltb-false max_size (size_of t) e
 
-  pub stops_at : (halt : Halt) → step within reached (p + length front) b ≡ Stop halt → (halt ≡ Large → ⊥) → StopsAt Script (front ++ b ∷ behind) (length front)
+  pub stops_at : (halt : Halt) → step (within mode) reached (p + length front) b ≡ Stop halt → (halt ≡ Large → ⊥) → StopsAt mode (front ++ b ∷ behind) (length front)
   stops_at halt stops other = record {
     inside = omega (arith, length-append front (b ∷ behind));
-    begins = subst (λ (w : List ℕ). BeginsWithin Script w) (sym (take-append_seam front (b ∷ behind))) (begins_of within refl reached p front path);
-    stops = λ k. no_form_on within refl reached p front path b halt stops other (subst (λ (w : List ℕ). BeginsWithin Script w) (first_of front b behind) k);
+    begins = subst (λ (w : List ℕ). BeginsWithin mode w) (sym (take-append_seam front (b ∷ behind))) (begins_of (within mode) reached p front path);
+    stops = λ k. no_form_on (within mode) reached p front path b halt stops other (subst (λ (w : List ℕ). BeginsWithin mode w) (first_of front b behind) k);
     ended = λ t h.
-        let form : IsForm within.rules max_levels front t = subst (λ (w : List ℕ). IsForm within.rules max_levels w t) (take-append_seam front (b ∷ behind)) h in (
-          small_enough t (ended_small within refl reached p front path b halt stops t form),
-          ap may_follow (drop-append_seam front (b ∷ behind)) ∙ ended_apart within refl reached p front path b halt stops behind t form,
+        let form : IsForm (within mode).rules max_levels front t = subst (λ (w : List ℕ). IsForm (within mode).rules max_levels w t) (take-append_seam front (b ∷ behind)) h in (
+          small_enough t (ended_small (within mode) reached p front path b halt stops t form),
+          ap may_follow (drop-append_seam front (b ∷ behind)) ∙ ended_apart (within mode) reached p front path b halt stops behind t form,
         );
   }
 
@@ -162,7 +161,7 @@ module _ (reached : State) (p : ℕ) (front : List ℕ) (path : Path within reac
   fault_limit mode b1 b2 l1 l2 s1 s2 wb wl ws r n e (inr (inr h)) = absurd (let clash : Halted Syntax n ≡ Halted Large h.0 = sym e ∙ h.1 in cc)
 
   -- with no limit, and with more levels, the fault is the same
-  no_form_anyhow : step within reached (p + length front) b ≡ Stop Syntax → BeginsAnyhow Script (front ++ b ∷ []) → ⊥
+  no_form_anyhow : step (within mode) reached (p + length front) b ≡ Stop Syntax → BeginsAnyhow mode (front ++ b ∷ []) → ⊥
   no_form_anyhow stops begins = both more_levels no_limits
     where
       levels : ℕ
@@ -171,42 +170,42 @@ module _ (reached : State) (p : ℕ) (front : List ℕ) (path : Path within reac
       text : List ℕ
       text = (front ++ b ∷ []) ++ begins.1.0
 
-      read : read_on (make Script false levels false) fresh p text ≡ Ended begins.1.1 (p + length text)
+      read : read_on (make mode false levels false) fresh p text ≡ Ended begins.1.1 (p + length text)
       read =
-          ap (λ (w : List ℕ). read_on (make Script false levels false) fresh p w) (sym (append-nil text))
-          ∙ form_read (make Script false levels false) refl text [] begins.1.1 p begins.1.2 refl refl
+          ap (λ (w : List ℕ). read_on (make mode false levels false) fresh p w) (sym (append-nil text))
+          ∙ form_read (make mode false levels false) text [] begins.1.1 p begins.1.2 refl refl
 
-      halted_there : read_on within fresh p text ≡ Halted Syntax (p + length front)
-      halted_there = ap (λ (w : List ℕ). read_on within fresh p w) (append_assoc front (b ∷ []) begins.1.0) ∙ halts within refl reached p front path b Syntax stops begins.1.0
+      halted_there : read_on (within mode) fresh p text ≡ Halted Syntax (p + length front)
+      halted_there = ap (λ (w : List ℕ). read_on (within mode) fresh p w) (append_assoc front (b ∷ []) begins.1.0) ∙ halts (within mode) reached p front path b Syntax stops begins.1.0
 
-      more_levels : read_on (make Script false (max_levels + levels) false) fresh p text ≡ Ended begins.1.1 (p + length text)
-      more_levels = go (reads_agree Script false false levels (max_levels + levels) false false (λ e. e) (omega arith) (λ e. e) text fresh p)
+      more_levels : read_on (make mode false (max_levels + levels) false) fresh p text ≡ Ended begins.1.1 (p + length text)
+      more_levels = go (reads_agree mode false false levels (max_levels + levels) false false (λ e. e) (omega arith) (λ e. e) text fresh p)
         where
-          go : (read_on (make Script false levels false) fresh p text ≡ read_on (make Script false (max_levels + levels) false) fresh p text)
-              ⊎ AtLimit Script false false levels (max_levels + levels) false false (λ e. e) (omega arith) (λ e. e) (read_on (make Script false levels false) fresh p text)
-              → read_on (make Script false (max_levels + levels) false) fresh p text ≡ Ended begins.1.1 (p + length text)
+          go : (read_on (make mode false levels false) fresh p text ≡ read_on (make mode false (max_levels + levels) false) fresh p text)
+              ⊎ AtLimit mode false false levels (max_levels + levels) false false (λ e. e) (omega arith) (λ e. e) (read_on (make mode false levels false) fresh p text)
+              → read_on (make mode false (max_levels + levels) false) fresh p text ≡ Ended begins.1.1 (p + length text)
           go (inl h) = sym h ∙ read
-          go (inr h) = absurd (ended_limit Script false false levels (max_levels + levels) false false (λ e. e) (omega arith) (λ e. e) _ begins.1.1 (p + length text) read h)
+          go (inr h) = absurd (ended_limit mode false false levels (max_levels + levels) false false (λ e. e) (omega arith) (λ e. e) _ begins.1.1 (p + length text) read h)
 
-      no_limits : read_on (make Script false (max_levels + levels) false) fresh p text ≡ Halted Syntax (p + length front)
-      no_limits = go (reads_agree Script true false max_levels (max_levels + levels) true false (λ e. refl) (omega arith) (λ e. refl) text fresh p)
+      no_limits : read_on (make mode false (max_levels + levels) false) fresh p text ≡ Halted Syntax (p + length front)
+      no_limits = go (reads_agree mode true false max_levels (max_levels + levels) true false (λ e. refl) (omega arith) (λ e. refl) text fresh p)
         where
-          go : (read_on within fresh p text ≡ read_on (make Script false (max_levels + levels) false) fresh p text)
-              ⊎ AtLimit Script true false max_levels (max_levels + levels) true false (λ e. refl) (omega arith) (λ e. refl) (read_on within fresh p text)
-              → read_on (make Script false (max_levels + levels) false) fresh p text ≡ Halted Syntax (p + length front)
+          go : (read_on (within mode) fresh p text ≡ read_on (make mode false (max_levels + levels) false) fresh p text)
+              ⊎ AtLimit mode true false max_levels (max_levels + levels) true false (λ e. refl) (omega arith) (λ e. refl) (read_on (within mode) fresh p text)
+              → read_on (make mode false (max_levels + levels) false) fresh p text ≡ Halted Syntax (p + length front)
           go (inl h) = sym h ∙ halted_there
-          go (inr h) = absurd (fault_limit Script true false max_levels (max_levels + levels) true false (λ e. refl) (omega arith) (λ e. refl) _ (p + length front) halted_there h)
+          go (inr h) = absurd (fault_limit mode true false max_levels (max_levels + levels) true false (λ e. refl) (omega arith) (λ e. refl) _ (p + length front) halted_there h)
 
-      both : read_on (make Script false (max_levels + levels) false) fresh p text ≡ Ended begins.1.1 (p + length text)
-          → read_on (make Script false (max_levels + levels) false) fresh p text ≡ Halted Syntax (p + length front) → ⊥
+      both : read_on (make mode false (max_levels + levels) false) fresh p text ≡ Ended begins.1.1 (p + length text)
+          → read_on (make mode false (max_levels + levels) false) fresh p text ≡ Halted Syntax (p + length front) → ⊥
       both e f = absurd (let clash : Ended begins.1.1 (p + length text) ≡ Halted Syntax (p + length front) = sym e ∙ f in cc)
 
   no_large : (halt : Halt) → (halt ≡ Syntax) ⊎ (halt ≡ Deep) → halt ≡ Large → ⊥
   no_large halt (inl e) f = absurd (let clash : Syntax ≡ Large = sym e ∙ f in cc)
   no_large halt (inr e) f = absurd (let clash : Deep ≡ Large = sym e ∙ f in cc)
 
-  pub syntax_fault : step within reached (p + length front) b ≡ Stop Syntax → SyntaxFaultAt Script (front ++ b ∷ behind) (length front)
+  pub syntax_fault : step (within mode) reached (p + length front) b ≡ Stop Syntax → SyntaxFaultAt mode (front ++ b ∷ behind) (length front)
   syntax_fault stops = (
     stops_at Syntax stops (no_large Syntax (inl refl)),
-    λ k. no_form_anyhow stops (subst (λ (w : List ℕ). BeginsAnyhow Script w) (first_of front b behind) k),
+    λ k. no_form_anyhow stops (subst (λ (w : List ℕ). BeginsAnyhow mode w) (first_of front b behind) k),
   )

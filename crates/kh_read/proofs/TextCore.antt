@@ -56,7 +56,7 @@ pub data Skips (σ : Setting) (here : Place) (fs : List Frame) (c : Bool) (p : �
   to_end : (more : List ℕ) → read_on σ (commented c here fs) p text ≡ Cut → IsBlank (opened_by c (text ++ more)) → IsBlankToEnd (opened_by c text)
       → Skips σ here fs c p text
 
-longer_line : (b : ℕ) (text : List ℕ) → eqb b 10 ≡ false → IsBlank (37 ∷ text) → IsBlank (37 ∷ b ∷ text)
+pub longer_line : (b : ℕ) (text : List ℕ) → eqb b 10 ≡ false → IsBlank (37 ∷ text) → IsBlank (37 ∷ b ∷ text)
 longer_line b text apart blank = go (37 ∷ text) text refl blank
   where
     go : (whole others : List ℕ) → whole ≡ 37 ∷ others → IsBlank whole → IsBlank (37 ∷ b ∷ others)
@@ -66,7 +66,7 @@ longer_line b text apart blank = go (37 ∷ text) text refl blank
         let same : inner ≡ others = cc in
         comment (b ∷ others) (b ∷ line) rest (and_from _ _ (not_from_false _ apart) inside) more (ap (λ (t : List ℕ). b ∷ t) (sym same ∙ parts))
 
-longer_line_to_end : (b : ℕ) (text : List ℕ) → eqb b 10 ≡ false → IsBlankToEnd (37 ∷ text) → IsBlankToEnd (37 ∷ b ∷ text)
+pub longer_line_to_end : (b : ℕ) (text : List ℕ) → eqb b 10 ≡ false → IsBlankToEnd (37 ∷ text) → IsBlankToEnd (37 ∷ b ∷ text)
 longer_line_to_end b text apart (inl blank) = inl (longer_line b text apart blank)
 longer_line_to_end b text apart (inr parts) = go parts.0 parts.1 parts.2 parts.3 parts.4
   where
@@ -86,11 +86,11 @@ longer_line_to_end b text apart (inr parts) = go parts.0 parts.1 parts.2 parts.3
           ap (λ (t : List ℕ). 37 ∷ b ∷ t) same,
         )
 
-blank_more : (b : ℕ) (text : List ℕ) → is_space b ≡ true → IsBlankToEnd text → IsBlankToEnd (b ∷ text)
+pub blank_more : (b : ℕ) (text : List ℕ) → is_space b ≡ true → IsBlankToEnd text → IsBlankToEnd (b ∷ text)
 blank_more b text is (inl blank) = inl (space b text is blank)
 blank_more b text is (inr parts) = inr (b ∷ parts.0, parts.1, space b parts.0 is parts.2, parts.3, ap (λ (t : List ℕ). b ∷ t) parts.4)
 
-line_ends : (text : List ℕ) → IsBlankToEnd text → IsBlankToEnd (37 ∷ 10 ∷ text)
+pub line_ends : (text : List ℕ) → IsBlankToEnd text → IsBlankToEnd (37 ∷ 10 ∷ text)
 line_ends text (inl blank) = inl (comment (10 ∷ text) [] text refl blank refl)
 line_ends text (inr parts) =
     inr (37 ∷ 10 ∷ parts.0, parts.1, comment (10 ∷ parts.0) [] parts.0 refl parts.2 refl, parts.3, ap (λ (t : List ℕ). 37 ∷ 10 ∷ t) parts.4)

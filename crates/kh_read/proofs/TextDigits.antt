@@ -11,7 +11,7 @@ use Rattle.kh_term.specs.WellFormed.{fits_128}
 use Rattle.kh_text_defs.specs.Spelled.{Rules, allows}
 use Rattle.kh_text_defs.specs.Tokens.{are_digits, IsInteger}
 use Rattle.kh_read.specs.State.{Frame, Place, Before, Minus, Digits, State, Setting, Halt, Syntax, Step, Stop, Reading, Cut}
-use Rattle.kh_read.specs.Steps.{at, fault, signed, is_byte, digit_of, takes_segment, fits_here, misfit, with_digit, begin_integer, step_place, step_digits, step_between, read_on}
+use Rattle.kh_read.specs.Steps.{at, fault, signed, is_byte, digit_of, takes_segment, byte_of, fits_here, misfit, with_digit, begin_integer, step_place, step_digits, step_between, read_on}
 use Rattle.kh_read.proofs.TextCore.{spot, byte_goes, byte_stops, at_the_end}
 use Rattle.kh_read.proofs.TextReads.{Reads, whole, part, halted}
 
@@ -78,6 +78,11 @@ zero_fits rules fs negative = go negative (takes_segment fs) rules.bounded
     go true false false = refl
     go false false true = refl
     go false false false = refl
+
+-- what fits a segment is a byte
+pub byte_is : (negative : Bool) (n : ℕ) → is_byte negative n ≡ true → byte_of n ≡ n
+byte_is true n fits = subst (λ (k : ℕ). byte_of k ≡ k) (sym (eqb-true n 0 fits)) refl
+byte_is false n fits = ap (λ (t : Bool). cond t n 0) fits
 
 pub some_digits : (b : ℕ) (text : List ℕ) → is_ascii_digit b ≡ true → list_all is_ascii_digit text ≡ true → are_digits (b ∷ text) ≡ true
 some_digits b text e each = and_from _ _ (le-leb 1 (length (b ∷ text)) (omega arith)) (and_from _ _ e each)

@@ -1,11 +1,10 @@
--- A reading and the form that it reads, in a script: each says the other.
+-- A reading and the form that it reads: each says the other.
 use Rattle.std.proofs.Common.{◌≡◌, ◌≤◌, ◌<◌, ℕ, zero, suc, ◌+◌, Bool, true, false, not, ◌&&◌, ◌||◌, cond, eqb, ltb, List, [], ◌∷◌, ◌++◌, length, inl, inr, refl, sym, ap, subst, ◌∙◌, arith, append_assoc, IsTrue}
 use Rattle.std.proofs.lemmas.Bool.{ltb-false, le-ltb}
 use Rattle.std.proofs.lemmas.List.{append-nil}
 use Rattle.kh_term.specs.declared.tree.TermTree.{TermTree}
 use Rattle.kh_term.specs.Size.{size_of}
 use Rattle.kh_text_defs.specs.declared.mode.Mode.{Mode}
-use Rattle.kh_text_defs.specs.declared.mode.Mode.TheVariants.{Script}
 use Rattle.kh_text_defs.specs.Blanks.{may_follow}
 use Rattle.kh_text_defs.specs.Faults.{max_levels, max_size, BeginsWithin, IsReadable}
 use Rattle.kh_text_defs.specs.Spelled.{Rules, within_limits, IsForm}
@@ -26,11 +25,11 @@ pub ended_term : (t u : TermTree) (m n : ℕ) → Ended t m ≡ Ended u n → t 
 ended_term t u m n e = cc
 
 -- what was read: a form within all limits, behind which what comes may follow
-pub record Found (p : ℕ) (text : List ℕ) (t : TermTree) (end : ℕ) : Type 0 where
+pub record Found (mode : Mode) (p : ℕ) (text : List ℕ) (t : TermTree) (end : ℕ) : Type 0 where
   pub form : List ℕ
   pub rest : List ℕ
   pub parts : text ≡ form ++ rest
-  pub readable : IsReadable Script form t
+  pub readable : IsReadable mode form t
   pub follows : may_follow rest ≡ true
   pub place : end ≡ p + length form
 
@@ -52,28 +51,28 @@ behind σ t q (b ∷ rest) = go (may_follow (b ∷ rest)) refl
     go false e = may_not (one_step σ (dotted t) q b rest (Stop Syntax) (dot_step false e))
 
 -- a form that was read is small enough
-small_read : (form rest : List ℕ) (t u : TermTree) (p n : ℕ) → IsForm within.rules max_levels form t → read_on within fresh p (form ++ rest) ≡ Ended u n → size_of t ≤ max_size
-small_read form rest t u p n h e = go (ltb max_size (size_of t)) refl
+small_read : (mode : Mode) (form rest : List ℕ) (t u : TermTree) (p n : ℕ) → IsForm (within mode).rules max_levels form t → read_on (within mode) fresh p (form ++ rest) ≡ Ended u n → may_follow rest ≡ true → size_of t ≤ max_size
+small_read mode form rest t u p n h e follows = go (ltb max_size (size_of t)) refl
   where
     go : (big : Bool) → ltb max_size (size_of t) ≡ big → size_of t ≤ max_size
     go false f = ltb-false max_size (size_of t) f
-    go true f = let k = large_form within refl form rest t p h f in absurd (let clash : Ended u n ≡ Halted Large k.0 = sym e ∙ k.1 in cc)
+    go true f = let k = large_form (within mode) form rest t p h f follows in absurd (let clash : Ended u n ≡ Halted Large k.0 = sym e ∙ k.1 in cc)
 
-pub found : (p : ℕ) (text : List ℕ) (t : TermTree) (end : ℕ) → read_on within fresh p text ≡ Ended t end → Found p text t end
-found p text t end e = go (forms within refl p text)
+pub found : (mode : Mode) (p : ℕ) (text : List ℕ) (t : TermTree) (end : ℕ) → read_on (within mode) fresh p text ≡ Ended t end → Found mode p text t end
+found mode p text t end e = go (forms (within mode) p text)
   where
-    go : Reads within any (IsForm within.rules max_levels) dotted p text (read_on within fresh p text) → Found p text t end
-    go (whole form rest u q parts stands good f place) = on (behind within u q rest)
+    go : Reads (within mode) any (IsForm (within mode).rules max_levels) dotted p text (read_on (within mode) fresh p text) → Found mode p text t end
+    go (whole form rest u q parts stands good f place) = on (behind (within mode) u q rest)
       where
-        on : Behind u q rest (read_on within (dotted u) q rest) → Found p text t end
+        on : Behind u q rest (read_on (within mode) (dotted u) q rest) → Found mode p text t end
         on (may follows g) =
             let same : Ended t end ≡ Ended u q = sym e ∙ (f ∙ g) in
-            let read : read_on within fresh p (form ++ rest) ≡ Ended t end = ap (λ (w : List ℕ). read_on within fresh p w) (sym parts) ∙ e in
+            let read : read_on (within mode) fresh p (form ++ rest) ≡ Ended t end = ap (λ (w : List ℕ). read_on (within mode) fresh p w) (sym parts) ∙ e in
             record {
               form = form;
               rest = rest;
               parts = parts;
-              readable = subst (λ (v : TermTree). IsReadable Script form v) (sym (ended_term t u end q same)) (stands, small_read form rest u t p end stands read);
+              readable = subst (λ (v : TermTree). IsReadable mode form v) (sym (ended_term t u end q same)) (stands, small_read mode form rest u t p end stands read follows);
               follows = follows;
               place = ended_end t u end q same ∙ place;
             }
@@ -82,28 +81,28 @@ found p text t end e = go (forms within refl p text)
     go (halted halt q f) = absurd (let clash : Ended t end ≡ Halted halt q = sym e ∙ f in cc)
 
 -- what is a form within all limits, behind which what comes may follow, is read
-pub only : (form rest : List ℕ) (t : TermTree) (p : ℕ) → IsReadable Script form t → may_follow rest ≡ true → read_on within fresh p (form ++ rest) ≡ Ended t (p + length form)
-only form rest t p h follows = form_read within refl form rest t p h.0 (le-ltb max_size (size_of t) h.1) follows
+pub only : (mode : Mode) (form rest : List ℕ) (t : TermTree) (p : ℕ) → IsReadable mode form t → may_follow rest ≡ true → read_on (within mode) fresh p (form ++ rest) ≡ Ended t (p + length form)
+only mode form rest t p h follows = form_read (within mode) form rest t p h.0 (le-ltb max_size (size_of t) h.1) follows
 
 -- what is cut begins a form and is none
-pub cut_begins : (p : ℕ) (text : List ℕ) → read_on within fresh p text ≡ Cut → BeginsWithin Script text
-cut_begins p text e = go (forms within refl p text)
+pub cut_begins : (mode : Mode) (p : ℕ) (text : List ℕ) → read_on (within mode) fresh p text ≡ Cut → BeginsWithin mode text
+cut_begins mode p text e = go (forms (within mode) p text)
   where
-    go : Reads within any (IsForm within.rules max_levels) dotted p text (read_on within fresh p text) → BeginsWithin Script text
-    go (whole form rest u q parts stands good f place) = on (behind within u q rest)
+    go : Reads (within mode) any (IsForm (within mode).rules max_levels) dotted p text (read_on (within mode) fresh p text) → BeginsWithin mode text
+    go (whole form rest u q parts stands good f place) = on (behind (within mode) u q rest)
       where
-        on : Behind u q rest (read_on within (dotted u) q rest) → BeginsWithin Script text
+        on : Behind u q rest (read_on (within mode) (dotted u) q rest) → BeginsWithin mode text
         on (may follows g) = absurd (let clash : Cut ≡ Ended u q = sym e ∙ (f ∙ g) in cc)
         on (may_not g) = absurd (let clash : Cut ≡ Halted Syntax q = sym e ∙ (f ∙ g) in cc)
     go (part more u f stands) = (more, u, stands)
     go (halted halt q f) = absurd (let clash : Cut ≡ Halted halt q = sym e ∙ f in cc)
 
-pub cut_is_none : (p : ℕ) (text : List ℕ) (t : TermTree) → read_on within fresh p text ≡ Cut → IsForm within.rules max_levels text t → ⊥
-cut_is_none p text t e h = go (ltb max_size (size_of t)) refl
+pub cut_is_none : (mode : Mode) (p : ℕ) (text : List ℕ) (t : TermTree) → read_on (within mode) fresh p text ≡ Cut → IsForm (within mode).rules max_levels text t → ⊥
+cut_is_none mode p text t e h = go (ltb max_size (size_of t)) refl
   where
-    reading : read_on within fresh p (text ++ []) ≡ Cut
-    reading = ap (λ (w : List ℕ). read_on within fresh p w) (append-nil text) ∙ e
+    reading : read_on (within mode) fresh p (text ++ []) ≡ Cut
+    reading = ap (λ (w : List ℕ). read_on (within mode) fresh p w) (append-nil text) ∙ e
 
     go : (big : Bool) → ltb max_size (size_of t) ≡ big → ⊥
-    go false f = absurd (let clash : Cut ≡ Ended t (p + length text) = sym reading ∙ form_read within refl text [] t p h f refl in cc)
-    go true f = let k = large_form within refl text [] t p h f in absurd (let clash : Cut ≡ Halted Large k.0 = sym reading ∙ k.1 in cc)
+    go false f = absurd (let clash : Cut ≡ Ended t (p + length text) = sym reading ∙ form_read (within mode) text [] t p h f refl in cc)
+    go true f = let k = large_form (within mode) text [] t p h f refl in absurd (let clash : Cut ≡ Halted Large k.0 = sym reading ∙ k.1 in cc)

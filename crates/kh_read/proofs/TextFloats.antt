@@ -47,11 +47,11 @@ some_digits b text e each = and_from _ _ (le-leb 1 (length (b ∷ text)) (omega 
 
 module _ (σ : Setting) (fs : List Frame) where
   -- digits that go on to the end of a float
-  exponent_on : (p b : ℕ) → is_ascii_digit b ≡ true → step_place σ Exponent fs p b ≡ at Exponent fs
+  pub exponent_on : (p b : ℕ) → is_ascii_digit b ≡ true → step_place σ Exponent fs p b ≡ at Exponent fs
   unfolding step_place
   exponent_on p b e = rw e refl
 
-  exponent_off : (p b : ℕ) → is_ascii_digit b ≡ false → step_place σ Exponent fs p b ≡ step_place σ (After unsupported) fs p b
+  pub exponent_off : (p b : ℕ) → is_ascii_digit b ≡ false → step_place σ Exponent fs p b ≡ step_place σ (After unsupported) fs p b
   unfolding step_place
   exponent_off p b e = rw e refl
 
@@ -66,7 +66,7 @@ module _ (σ : Setting) (fs : List Frame) where
           (λ u t r. (and_from _ _ e r.0, r.1)) (λ t. refl) (byte_goes σ Exponent fs p b bytes _ (exponent_on p b e)) more
       go false e more = whole [] (b ∷ bytes) unsupported p refl (refl, refl) refl (same_step σ Exponent (After unsupported) fs fs p b bytes (exponent_off p b e)) (omega arith)
 
-  signed_on : (p b : ℕ) → is_ascii_digit b ≡ true → step_place σ Signed fs p b ≡ at Exponent fs
+  pub signed_on : (p b : ℕ) → is_ascii_digit b ≡ true → step_place σ Signed fs p b ≡ at Exponent fs
   unfolding step_place
   signed_on p b e = rw e refl
 
@@ -84,11 +84,11 @@ module _ (σ : Setting) (fs : List Frame) where
           (λ u t r. (some_digits b u e r.0, r.1)) (λ t. refl) (byte_goes σ Signed fs p b bytes _ (signed_on p b e)) (exponent bytes (suc p))
       go false e = halted Syntax p (byte_stops σ Signed fs p b bytes _ (signed_off p b e))
 
-  mark_sign : (p b : ℕ) → is_sign b ≡ true → step_place σ Mark fs p b ≡ at Signed fs
+  pub mark_sign : (p b : ℕ) → is_sign b ≡ true → step_place σ Mark fs p b ≡ at Signed fs
   unfolding step_place
   mark_sign p b e = rw e refl
 
-  mark_digit : (p b : ℕ) → is_sign b ≡ false → is_ascii_digit b ≡ true → step_place σ Mark fs p b ≡ at Exponent fs
+  pub mark_digit : (p b : ℕ) → is_sign b ≡ false → is_ascii_digit b ≡ true → step_place σ Mark fs p b ≡ at Exponent fs
   unfolding step_place
   mark_digit p b e f = rw (e, f) refl
 
@@ -113,15 +113,15 @@ module _ (σ : Setting) (fs : List Frame) where
   exponent_of b text e (inl digits) = inr (b, text, e, digits, inl refl)
   exponent_of b text e (inr h) = inr (b, h.1, e, h.3, inr (h.0, h.2, ap (λ (t : List ℕ). b ∷ t) h.4))
 
-  fraction_mark : (p b : ℕ) → is_exponent_mark b ≡ true → step_place σ Fraction fs p b ≡ at Mark fs
+  pub fraction_mark : (p b : ℕ) → is_exponent_mark b ≡ true → step_place σ Fraction fs p b ≡ at Mark fs
   unfolding step_place
   fraction_mark p b e = rw e refl
 
-  fraction_on : (p b : ℕ) → is_exponent_mark b ≡ false → is_ascii_digit b ≡ true → step_place σ Fraction fs p b ≡ at Fraction fs
+  pub fraction_on : (p b : ℕ) → is_exponent_mark b ≡ false → is_ascii_digit b ≡ true → step_place σ Fraction fs p b ≡ at Fraction fs
   unfolding step_place
   fraction_on p b e f = rw (e, f) refl
 
-  fraction_off : (p b : ℕ) → is_exponent_mark b ≡ false → is_ascii_digit b ≡ false → step_place σ Fraction fs p b ≡ step_place σ (After unsupported) fs p b
+  pub fraction_off : (p b : ℕ) → is_exponent_mark b ≡ false → is_ascii_digit b ≡ false → step_place σ Fraction fs p b ≡ step_place σ (After unsupported) fs p b
   unfolding step_place
   fraction_off p b e f = rw (e, f) refl
 
@@ -168,7 +168,7 @@ module _ (σ : Setting) (fs : List Frame) (takes : TakesTerm fs) where
   unfolding step_place step_digits
   digits_off first q b x e f = rw (e, f) (ap (λ (h : Place). step_between σ h fs q b) (ends_term x.0 x.1))
 
-  digits_point : (first q b : ℕ) (x : Bool × ℕ) → is_ascii_digit b ≡ false → (eqb b 46 && takes_fraction σ.rules fs) ≡ true
+  pub digits_point : (first q b : ℕ) (x : Bool × ℕ) → is_ascii_digit b ≡ false → (eqb b 46 && takes_fraction σ.rules fs) ≡ true
       → step_place σ (Digits first x.0 x.1) fs q b ≡ at (Point (signed x.0 x.1)) fs
   unfolding step_place step_digits
   digits_point first q b x e f = rw (e, f) refl
@@ -181,7 +181,7 @@ module _ (σ : Setting) (fs : List Frame) (takes : TakesTerm fs) where
       (float _ u (d ∷ h.0.0) h.0.1 (signed x.0 x.1) (listing_of σ.rules fs listing) (integer_of u x is) (some_digits d h.0.0 digit h.0.2) h.0.3
       (ap (λ (w : List ℕ). u ++ 46 ∷ d ∷ w) h.0.4))
 
-  point_digit : (gs : List Frame) (z : ℤ) (q b : ℕ) → is_ascii_digit b ≡ true → step_place σ (Point z) gs q b ≡ at Fraction gs
+  pub point_digit : (gs : List Frame) (z : ℤ) (q b : ℕ) → is_ascii_digit b ≡ true → step_place σ (Point z) gs q b ≡ at Fraction gs
   unfolding step_place step_point
   point_digit [] z q b e = rw e refl
   point_digit (g ∷ gs) z q b e = rw e refl
@@ -201,9 +201,23 @@ module _ (σ : Setting) (fs : List Frame) (takes : TakesTerm fs) where
       go true = le-ltb max_size (size_of (tree.Int z)) (omega (arith, size-Int z))
       go false = refl
 
-  int_dotted : (z : ℤ) (q : ℕ) → step_place σ (After (tree.Int z)) [] q 46 ≡ at (Dotted (tree.Int z)) []
+  pub int_dotted : (z : ℤ) (q : ℕ) → step_place σ (After (tree.Int z)) [] q 46 ≡ at (Dotted (tree.Int z)) []
   unfolding step_place step_between step_mark step_after
   int_dotted z q = rw (small_integer z) refl
+
+  -- Behind the dot of a form an integer ends as it does where no fraction may come.
+  alike_end : (z : ℤ) (q : ℕ) (rest : List ℕ) → no_digit rest ≡ true → read_on σ (spot (Point z) []) q rest ≡ read_on σ (spot (Dotted (tree.Int z)) []) q rest
+  alike_end z q [] quiet = at_the_end σ (spot (Point z) []) q ∙ sym (at_the_end σ (spot (Dotted (tree.Int z)) []) q)
+  alike_end z q (b ∷ rest) quiet = same_step σ (Point z) (Dotted (tree.Int z)) [] [] q b rest (point_dotted z q b (not-true _ quiet))
+
+  pub ends_alike : (first q : ℕ) (x : Bool × ℕ) (rest : List ℕ) → fs ≡ [] → takes_fraction σ.rules fs ≡ true → no_digit rest ≡ true
+      → read_on σ (spot (Digits first x.0 x.1) fs) q (46 ∷ rest) ≡ read_on σ (spot (After (tree.Int (signed x.0 x.1))) fs) q (46 ∷ rest)
+  ends_alike first q x rest same listing quiet =
+      let z = signed x.0 x.1 in
+      let pointed : read_on σ (spot (Digits first x.0 x.1) fs) q (46 ∷ rest) ≡ read_on σ (spot (Point z) fs) (suc q) rest = byte_goes σ (Digits first x.0 x.1) fs q 46 rest _ (digits_point first q 46 x refl listing) in
+      let dotted : read_on σ (spot (After (tree.Int z)) []) q (46 ∷ rest) ≡ read_on σ (spot (Dotted (tree.Int z)) []) (suc q) rest = byte_goes σ (After (tree.Int z)) [] q 46 rest _ (int_dotted z q) in
+      pointed ∙ (ap (λ (gs : List Frame). read_on σ (spot (Point z) gs) (suc q) rest) same
+      ∙ (alike_end z (suc q) rest quiet ∙ (sym dotted ∙ ap (λ (gs : List Frame). read_on σ (spot (After (tree.Int z)) gs) q (46 ∷ rest)) (sym same))))
 
   -- behind the dot of what may be a float
   point_end : (u rest : List ℕ) (x : Bool × ℕ) (p q : ℕ) (text : List ℕ) (start : Reading) → text ≡ u ++ 46 ∷ rest → takes_fraction σ.rules fs ≡ true → IntegerOf σ.rules fs u x

@@ -1,4 +1,4 @@
--- Reading a form, in a script.
+-- Reading a form.
 use Rattle.std.proofs.Common.{◌≡◌, ◌≤◌, ◌<◌, ℕ, zero, suc, ◌+◌, Bool, true, false, not, ◌&&◌, ◌||◌, cond, eqb, ltb, List, [], ◌∷◌, ◌++◌, length, inl, inr, refl, sym, ap, subst, ◌∙◌, arith, append_assoc}
 use Rattle.std.specs.Prelude.{◌⊎◌}
 use Rattle.std.proofs.lemmas.Bool.{eqb-true}
@@ -19,7 +19,7 @@ use Rattle.kh_read.proofs.TextTerms.{terms}
 abbrev pub dotted : TermTree → State
 dotted t = spot (Dotted t) []
 
-module _ (σ : Setting) (script : σ.rules.mode ≡ Script) where
+module _ (σ : Setting) where
   pub top_ready : Ready σ [] σ.levels
   top_ready = record { room = omega arith; segment = refl; arity = refl; name = refl }
 
@@ -57,4 +57,4 @@ module _ (σ : Setting) (script : σ.rules.mode ≡ Script) where
   forms p text =
       reads_as σ any (Then (Wide (Spells σ.rules σ.levels)) (λ u. Closing 46 u)) (IsForm σ.rules σ.levels) dotted dotted (λ t. t) p text _ _ form_text (λ t. refl) refl
       (reads_then σ any (Wide (Spells σ.rules σ.levels)) (λ u. Closing 46 u) (behind_term []) dotted (λ t q. after_cut σ t [] q) (λ t. closing_sample 46 t) dot p text _
-      (wide_term σ σ.levels [] (terms σ script σ.levels) top_ready top_begin p text))
+      (wide_term σ σ.levels [] (terms σ σ.levels) top_ready top_begin p text))

@@ -1,5 +1,5 @@
 -- What is spelled is read: a text leads from one state to another.
-use Rattle.std.proofs.Common.{◌≡◌, ◌≤◌, ◌<◌, ℕ, zero, suc, ◌+◌, ◌-◌, ◌*◌, Bool, true, false, not, ◌&&◌, ◌||◌, cond, eqb, ltb, List, [], ◌∷◌, ◌++◌, length, inl, inr, refl, sym, ap, subst, ◌∙◌, arith, append_assoc, ℤ, pos, negsuc, IsTrue}
+use Rattle.std.proofs.Common.{◌≡◌, ◌≤◌, ◌<◌, ℕ, zero, suc, ◌+◌, ◌-◌, ◌*◌, Bool, true, false, not, ◌&&◌, ◌||◌, cond, eqb, ltb, leb, List, [], ◌∷◌, ◌++◌, length, inl, inr, refl, sym, ap, subst, ◌∙◌, arith, append_assoc, ℤ, pos, negsuc, IsTrue}
 use Rattle.std.specs.Prelude.{◌⊎◌, ◌^◌, neg_ℤ}
 use Rattle.std.specs.Char.{is_ascii_digit, is_ascii_lowercase, digit_value}
 use Rattle.std.specs.List.{list_all}
@@ -15,7 +15,7 @@ use Rattle.kh_read.specs.State.{Frame, Place, Before, Minus, Digits, Word, State
 use Rattle.kh_read.specs.Steps.{at, signed, is_byte, digit_of, takes_segment, fits_here, with_digit, begin_integer, step_digits, step_word, step_place, read_on}
 use Rattle.kh_read.proofs.TextCore.{spot, byte_goes, IsBetween, commented, space_step, comment_step, in_line, line_end}
 use Rattle.kh_read.proofs.TextReads.{any}
-use Rattle.kh_read.proofs.TextDigits.{digit_is}
+use Rattle.kh_read.proofs.TextDigits.{no_digit, digit_is}
 use Rattle.kh_read.proofs.TextWords.{no_word}
 
 abbrev pub Leads : Setting → State → List ℕ → State → (List ℕ → Bool) → Type 0
@@ -85,17 +85,93 @@ blank_quiet blank rest (space byte more is others) q = not_from_false _ (space_n
         go false false false false e f g i h = absurd (cc)
 blank_quiet blank rest (comment text line more inside others parts) q = refl
 
+-- ---- what may stand behind a term
+
+-- no name comes behind blanks, in a comment or not
+abbrev pub no_name : Bool → List ℕ → Bool
+no_name c [] = true
+no_name true (b ∷ rest) = no_name (not (eqb b 10)) rest
+no_name false (b ∷ rest) = cond (is_space b) (no_name false rest) (cond (eqb b 37) (no_name true rest) (not (is_ascii_lowercase b || eqb b 39)))
+
+abbrev pub is_top : List Frame → Bool
+is_top [] = true
+is_top (f ∷ fs) = false
+
+-- no part of a word, no name behind blanks, and a dot only at the end of a form, where nothing is open
+abbrev pub good_end : Bool → List ℕ → Bool
+good_end top [] = true
+good_end top (b ∷ rest) = not (is_word_byte b) && (no_name false (b ∷ rest) && (not (eqb b 46) || (top && no_digit rest)))
+
+pub good_quiet : (top : Bool) (rest : List ℕ) → good_end top rest ≡ true → no_word rest ≡ true
+good_quiet top [] q = refl
+good_quiet top (b ∷ rest) q = (and_parts _ _ q).0
+
+pub good_name : (top : Bool) (rest : List ℕ) → good_end top rest ≡ true → no_name false rest ≡ true
+good_name top [] q = refl
+good_name top (b ∷ rest) q = (and_parts _ _ (and_parts _ _ q).1).0
+
+line_names : (line more rest : List ℕ) → list_all is_inside_line line ≡ true → no_name false (more ++ rest) ≡ true → no_name true ((line ++ 10 ∷ more) ++ rest) ≡ true
+line_names [] more rest inside q = q
+line_names (b ∷ line) more rest inside q =
+    let parts = and_parts (is_inside_line b) (list_all is_inside_line line) inside in
+    ap (λ (c : Bool). no_name c ((line ++ 10 ∷ more) ++ rest)) parts.0 ∙ line_names line more rest parts.1 q
+
+names_behind : (blank rest : List ℕ) → IsBlank blank → no_name false rest ≡ true → no_name false (blank ++ rest) ≡ true
+names_behind blank rest no_blank q = q
+names_behind blank rest (space byte more is others) q = rw is (names_behind more rest others q)
+names_behind blank rest (comment text line more inside others parts) q =
+    ap (λ (t : List ℕ). no_name true (t ++ rest)) parts ∙ line_names line more rest inside (names_behind more rest others q)
+
+space_no_dot : (b : ℕ) → is_space b ≡ true → eqb b 46 ≡ false
+space_no_dot b h = go (eqb b 46) refl
+  where
+    go : (t : Bool) → eqb b 46 ≡ t → t ≡ false
+    go false e = refl
+    go true e = absurd (let clash : false ≡ true = subst (λ (k : ℕ). is_space k ≡ true) (eqb-true b 46 e) h in cc)
+
+pub blank_good : (top : Bool) (blank rest : List ℕ) → IsBlank blank → good_end top rest ≡ true → good_end top (blank ++ rest) ≡ true
+blank_good top blank rest no_blank q = q
+blank_good top blank rest (space byte more is others) q =
+    and_from _ _ (blank_quiet (byte ∷ more) rest (space byte more is others) (good_quiet top rest q))
+    (and_from _ _ (names_behind (byte ∷ more) rest (space byte more is others) (good_name top rest q)) (ap (λ (t : Bool). not t || (top && no_digit (more ++ rest))) (space_no_dot byte is)))
+blank_good top blank rest (comment text line more inside others parts) q =
+    and_from _ _ (names_behind (37 ∷ text) rest (comment text line more inside others parts) (good_name top rest q)) refl
+
+-- behind what stands for a value blanks may come
+pub wide_leads_to : {A : Type 0} (σ : Setting) (R : List ℕ → A → Type 0) (begin : Place) (fs : List Frame) (here : A → Place) (over : A → List Frame) (text : List ℕ) (x : A) (Q : List ℕ → Bool)
+    → ((blank rest : List ℕ) → IsBlank blank → Q rest ≡ true → Q (blank ++ rest) ≡ true)
+    → IsBetween σ begin fs → IsBetween σ (here x) (over x) → ((u : List ℕ) → R u x → Leads σ (spot begin fs) u (spot (here x) (over x)) Q)
+    → Wide R text x → Leads σ (spot begin fs) text (spot (here x) (over x)) Q
+wide_leads_to σ R begin fs here over text x Q blanks between after core w =
+    subst (λ (t : List ℕ). Leads σ (spot begin fs) t (spot (here x) (over x)) Q) (sym w.parts)
+    (leads_then σ (spot begin fs) (spot begin fs) (spot (here x) (over x)) w.before (w.inside ++ w.behind) any Q (blank_leads σ begin fs between w.before w.blank_before)
+    (leads_then σ (spot begin fs) (spot (here x) (over x)) (spot (here x) (over x)) w.inside w.behind Q Q (core w.inside w.stands)
+    (λ p rest q. blank_leads σ (here x) (over x) after w.behind w.blank_behind p rest refl) (λ rest q. blanks w.behind rest w.blank_behind q))
+    (λ rest q. refl))
+
 pub wide_leads : {A : Type 0} (σ : Setting) (R : List ℕ → A → Type 0) (fs : List Frame) (here : A → Place) (over : A → List Frame) (text : List ℕ) (x : A)
     → IsBetween σ Before fs → IsBetween σ (here x) (over x) → ((u : List ℕ) → R u x → Leads σ (spot Before fs) u (spot (here x) (over x)) no_word)
     → Wide R text x → Leads σ (spot Before fs) text (spot (here x) (over x)) no_word
-wide_leads σ R fs here over text x between after core w =
-    subst (λ (t : List ℕ). Leads σ (spot Before fs) t (spot (here x) (over x)) no_word) (sym w.parts)
-    (leads_then σ (spot Before fs) (spot Before fs) (spot (here x) (over x)) w.before (w.inside ++ w.behind) any no_word (blank_leads σ Before fs between w.before w.blank_before)
-    (leads_then σ (spot Before fs) (spot (here x) (over x)) (spot (here x) (over x)) w.inside w.behind no_word no_word (core w.inside w.stands)
-    (λ p rest q. blank_leads σ (here x) (over x) after w.behind w.blank_behind p rest refl) (λ rest q. blank_quiet w.behind rest w.blank_behind q))
-    (λ rest q. refl))
+wide_leads σ R fs here over text x between after core w = wide_leads_to σ R Before fs here over text x no_word blank_quiet between after core w
 
 -- ---- digits
+
+-- digits at a place where digits may go on
+run_digits : (σ : Setting) (here : Place) (fs : List Frame) → ((p b : ℕ) → is_ascii_digit b ≡ true → step_place σ here fs p b ≡ at here fs)
+    → (ds : List ℕ) → list_all is_ascii_digit ds ≡ true → Leads σ (spot here fs) ds (spot here fs) any
+run_digits σ here fs on [] each = leads_nothing σ (spot here fs) (spot here fs) any (λ p rest q. refl)
+run_digits σ here fs on (d ∷ ds) each =
+    let parts = and_parts (is_ascii_digit d) (list_all is_ascii_digit ds) each in
+    leads_first σ here fs d ds (spot here fs) (spot here fs) any (λ p. on p d parts.0) (run_digits σ here fs on ds parts.1)
+
+-- a digit, and digits behind it
+pub digits_from : (σ : Setting) (here there : Place) (fs : List Frame) → ((p b : ℕ) → is_ascii_digit b ≡ true → step_place σ here fs p b ≡ at there fs)
+    → ((p b : ℕ) → is_ascii_digit b ≡ true → step_place σ there fs p b ≡ at there fs)
+    → (ds : List ℕ) → are_digits ds ≡ true → Leads σ (spot here fs) ds (spot there fs) any
+digits_from σ here there fs first on [] are = absurd (let clash : false ≡ true = are in cc)
+digits_from σ here there fs first on (d ∷ ds) are =
+    let parts = and_parts (is_ascii_digit d) (list_all is_ascii_digit ds) (and_parts (leb 1 (length (d ∷ ds))) (list_all is_ascii_digit (d ∷ ds)) are).1 in
+    leads_first σ here fs d ds (spot there fs) (spot there fs) any (λ p. first p d parts.0) (run_digits σ there fs on ds parts.1)
 
 pub digits_grow : (ds : List ℕ) (m : ℕ) → m ≤ digits_value_after 10 m ds
 digits_grow [] m = omega arith

@@ -1,32 +1,36 @@
--- Integers, atoms and binaries are read as they are spelled, in a script.
+-- Integers, atoms and texts in quotes are read as they are spelled.
 use Rattle.std.proofs.Common.{◌≡◌, ◌≤◌, ◌<◌, ℕ, zero, suc, ◌+◌, ◌-◌, ◌*◌, Bool, true, false, not, ◌&&◌, ◌||◌, cond, eqb, ltb, leb, List, [], ◌∷◌, ◌++◌, length, map, Option, Some, None, inl, inr, refl, sym, ap, subst, ◌∙◌, arith, append_assoc, ℤ, pos}
 use Rattle.std.specs.Prelude.{◌⊎◌, codes, neg_ℤ}
 use Rattle.std.specs.Char.{IsScalar, encode_utf8, is_ascii_digit, is_ascii_lowercase, len_utf8}
 use Rattle.std.specs.List.{list_all}
 use Rattle.std.specs.Str.{bytes_eq, encode_utf8_all, all_scalars}
 use Rattle.std.specs.Str.Parse.{digits_value, digits_value_after}
-use Rattle.std.proofs.lemmas.Bool.{and_parts, and_from, or_parts, or_left, or_right, eqb-true, eqb-false, eq-eqb, ne_eqb, lt-ltb, ltb-true, le-ltb, le-leb, not-true, leb-true}
+use Rattle.std.proofs.lemmas.Bool.{and_parts, and_from, or_parts, or_from, or_left, or_right, eqb-true, eqb-false, eq-eqb, ne_eqb, lt-ltb, ltb-true, le-ltb, le-leb, not-true, leb-true}
 use Rattle.std.proofs.lemmas.Bool.Decides.{nat_tests}
 use Rattle.std.proofs.lemmas.List.{length-append, append-nil}
+use Rattle.std.proofs.lemmas.Slice.Eq.{bytes_eq-Decides}
 use Rattle.std.proofs.lemmas.Str.{length-encode, len_utf8_bounds}
 use Rattle.kh_term.specs.declared.tree.TermTree.{TermTree}
 use Rattle.kh_term.specs.declared.tree.TermTree.TheVariants as tree
 use Rattle.kh_text_defs.specs.declared.mode.Mode.{Mode}
 use Rattle.kh_text_defs.specs.declared.mode.Mode.TheVariants.{Script, Listing}
 use Rattle.kh_text_defs.specs.Atoms.{is_word_byte, is_plain_word}
+use Rattle.kh_text_defs.specs.Blanks.{is_space}
 use Rattle.kh_text_defs.specs.Spelled.{Rules}
 use Rattle.kh_text_defs.specs.Tokens.{are_digits, IsInteger, escaped, Character, as_it_is, by_letter, by_code, Characters, no_character, one_character, Quoted, SpellsAtom}
 use Rattle.kh_read.specs.State.{Frame, Use, ForName, ForList, ForSegment, Quoting, Plain, Place, After, AfterName, Minus, Digits, Word, Fun, Quote, State, Setting, Step, Go, Reading}
 use Rattle.kh_read.specs.Steps.{at, is_listing, signed, digit_of, takes_name, fits_here, with_digit, bound, used, quote_of, quote_ended, ends_well, name_ended, begin_name, begin_integer, step_place, read_on}
-use Rattle.kh_read.proofs.TextCore.{spot, byte_goes, same_step, at_the_end}
+use Rattle.kh_read.proofs.TextCore.{spot, byte_goes, same_step, at_the_end, commented, space_step, comment_step, in_line, line_end}
 use Rattle.kh_read.proofs.TextReads.{any}
 use Rattle.kh_read.proofs.TextDigits.{first_value}
 use Rattle.kh_read.proofs.TextWords.{no_word}
 use Rattle.kh_read.proofs.TextPoints.{low_scalar, name_bound, same_quote}
 use Rattle.kh_read.proofs.TextQuotes.{AreBelow, with_one}
 use Rattle.kh_read.proofs.TextQuoted.{escaped_small, same_end, plain_ends}
-use Rattle.kh_read.proofs.TextNames.{empty_name, named_off, atom_off}
-use Rattle.kh_read.proofs.TextLeads.{Leads, leads_first, leads_byte, leads_nothing, leads_then, fits_less, digits_grow, digits_lead, word_leads}
+use Rattle.kh_read.proofs.TextBrackets.{between_after}
+use Rattle.kh_read.proofs.TextNames.{empty_name, named_off}
+use Rattle.kh_read.proofs.TextReferences.{between_fun, fun_atom, atom_off, fun_off}
+use Rattle.kh_read.proofs.TextLeads.{Leads, no_name, is_top, good_end, good_quiet, good_name, leads_first, leads_byte, leads_nothing, leads_then, fits_less, digits_grow, digits_lead, word_leads}
 use Rattle.kh_read.proofs.TextLeadsQuotes.{with_all, quote_leads}
 
 -- the state that is reached reads on as another
@@ -40,7 +44,7 @@ no_word_no_digit b h = grind (arith, nat_tests)
 -- ---- integers
 
 module _ (σ : Setting) (fs : List Frame) (here : Place) (begins : (p b : ℕ) → (eqb b 45 || is_ascii_digit b) ≡ true → step_place σ here fs p b ≡ begin_integer σ.rules fs p b)
-    (negative : Bool) (n : ℕ) (later : State) (turn : (first q : ℕ) (rest : List ℕ) → no_word rest ≡ true → read_on σ (spot (Digits first negative n) fs) q rest ≡ read_on σ later q rest) where
+    (negative : Bool) (n : ℕ) (Q : List ℕ → Bool) (later : State) (turn : (first q : ℕ) (rest : List ℕ) → Q rest ≡ true → read_on σ (spot (Digits first negative n) fs) q rest ≡ read_on σ later q rest) where
   minus_step : (p b : ℕ) → is_ascii_digit b ≡ true → fits_here σ.rules fs true (digit_of b) ≡ true → (first : ℕ) → step_place σ (Minus first) fs p b ≡ at (Digits first true (digit_of b)) fs
   unfolding step_place
   minus_step p b e f first = rw (e, f) refl
@@ -49,13 +53,13 @@ module _ (σ : Setting) (fs : List Frame) (here : Place) (begins : (p b : ℕ) �
   digit_no_minus b h = grind (arith, nat_tests)
 
   behind_first : (neg : Bool) (d : ℕ) (ds : List ℕ) → neg ≡ negative → list_all is_ascii_digit ds ≡ true → n ≡ digits_value_after 10 (digit_of d) ds → fits_here σ.rules fs negative n ≡ true
-      → (first p : ℕ) (rest : List ℕ) → no_word rest ≡ true → read_on σ (spot (Digits first neg (digit_of d)) fs) p (ds ++ rest) ≡ read_on σ later (p + length ds) rest
+      → (first p : ℕ) (rest : List ℕ) → Q rest ≡ true → read_on σ (spot (Digits first neg (digit_of d)) fs) p (ds ++ rest) ≡ read_on σ later (p + length ds) rest
   behind_first neg d ds same each value fits first p rest quiet =
       let fit : fits_here σ.rules fs neg (digits_value_after 10 (digit_of d) ds) ≡ true = (λ i. fits_here σ.rules fs (same i) (sym value i)) ∙ fits in
       digits_lead σ fs first neg ds (digit_of d) each fit p rest refl
       ∙ ((λ i. read_on σ (spot (Digits first (same i) (sym value i)) fs) (p + length ds) rest) ∙ turn first (p + length ds) rest quiet)
 
-  digits_text : (text : List ℕ) → false ≡ negative → are_digits text ≡ true → n ≡ digits_value 10 text → fits_here σ.rules fs negative n ≡ true → Leads σ (spot here fs) text later no_word
+  digits_text : (text : List ℕ) → false ≡ negative → are_digits text ≡ true → n ≡ digits_value 10 text → fits_here σ.rules fs negative n ≡ true → Leads σ (spot here fs) text later Q
   digits_text [] same are value fits = absurd (let no : false ≡ true = are in cc)
   digits_text (d ∷ ds) same are value fits = λ p rest quiet.
       let parts = and_parts (leb 1 (length (d ∷ ds))) (list_all is_ascii_digit (d ∷ ds)) are in
@@ -66,7 +70,7 @@ module _ (σ : Setting) (fs : List Frame) (here : Place) (begins : (p b : ℕ) �
       byte_goes σ here fs p d (ds ++ rest) _ (begins p d (or_right (eqb d 45) (is_ascii_digit d) each.0) ∙ rw (digit_no_minus d each.0, each.0, fit) refl)
       ∙ (behind_first false d ds same each.1 is fits p (suc p) rest quiet ∙ ap (λ (k : ℕ). read_on σ later k rest) place)
 
-  minus_text : (text : List ℕ) → true ≡ negative → are_digits text ≡ true → n ≡ digits_value 10 text → fits_here σ.rules fs negative n ≡ true → Leads σ (spot here fs) (45 ∷ text) later no_word
+  minus_text : (text : List ℕ) → true ≡ negative → are_digits text ≡ true → n ≡ digits_value 10 text → fits_here σ.rules fs negative n ≡ true → Leads σ (spot here fs) (45 ∷ text) later Q
   minus_text [] same are value fits = absurd (let no : false ≡ true = are in cc)
   minus_text (d ∷ ds) same are value fits = λ p rest quiet.
       let parts = and_parts (leb 1 (length (d ∷ ds))) (list_all is_ascii_digit (d ∷ ds)) are in
@@ -92,16 +96,16 @@ pub signed_of : (rules : Rules) (fs : List Frame) (text : List ℕ) (z : ℤ) �
 signed_of rules fs text z (digits, are, inl h) = record { negative = false; magnitude = digits_value 10 digits; digits = digits; are = are; value = refl; same = sym h.1; parts = h.0 }
 signed_of rules fs text z (digits, are, inr h) = record { negative = true; magnitude = digits_value 10 digits; digits = digits; are = are; value = refl; same = sym h.1; parts = h.0 }
 
-pub integer_leads : (σ : Setting) (fs : List Frame) (here : Place) (text : List ℕ) (z : ℤ) (later : State)
+pub integer_leads : (σ : Setting) (fs : List Frame) (here : Place) (text : List ℕ) (z : ℤ) (Q : List ℕ → Bool) (later : State)
     → ((p b : ℕ) → (eqb b 45 || is_ascii_digit b) ≡ true → step_place σ here fs p b ≡ begin_integer σ.rules fs p b)
     → (s : IsSigned σ.rules fs text z) → fits_here σ.rules fs s.negative s.magnitude ≡ true
-    → ((first q : ℕ) (rest : List ℕ) → no_word rest ≡ true → read_on σ (spot (Digits first s.negative s.magnitude) fs) q rest ≡ read_on σ later q rest)
-    → Leads σ (spot here fs) text later no_word
-integer_leads σ fs here text z later begins s fits turn = subst (λ (t : List ℕ). Leads σ (spot here fs) t later no_word) (sym s.parts) (go s.negative refl)
+    → ((first q : ℕ) (rest : List ℕ) → Q rest ≡ true → read_on σ (spot (Digits first s.negative s.magnitude) fs) q rest ≡ read_on σ later q rest)
+    → Leads σ (spot here fs) text later Q
+integer_leads σ fs here text z Q later begins s fits turn = subst (λ (t : List ℕ). Leads σ (spot here fs) t later Q) (sym s.parts) (go s.negative refl)
   where
-    go : (neg : Bool) → neg ≡ s.negative → Leads σ (spot here fs) (cond neg (45 ∷ s.digits) s.digits) later no_word
-    go true e = minus_text σ fs here begins s.negative s.magnitude later turn s.digits e s.are s.value fits
-    go false e = digits_text σ fs here begins s.negative s.magnitude later turn s.digits e s.are s.value fits
+    go : (neg : Bool) → neg ≡ s.negative → Leads σ (spot here fs) (cond neg (45 ∷ s.digits) s.digits) later Q
+    go true e = minus_text σ fs here begins s.negative s.magnitude Q later turn s.digits e s.are s.value fits
+    go false e = digits_text σ fs here begins s.negative s.magnitude Q later turn s.digits e s.are s.value fits
 
 -- ---- names
 
@@ -188,7 +192,7 @@ ends_all : (q : Quoting) (cs : List ℕ) → ends_well (with_all q cs).use_ (wit
 ends_all q [] = ap (ends_well q.use_) (sym (append-nil q.points))
 ends_all q (c ∷ cs) = ends_all (with_one q c) cs ∙ (ends_same q.use_ c ((q.points ++ c ∷ []) ++ cs) ∙ ap (ends_well q.use_) (append_assoc q.points (c ∷ []) cs))
 
-all_are : (cs : List ℕ) → AreScalars cs → all_scalars cs ≡ true
+pub all_are : (cs : List ℕ) → AreScalars cs → all_scalars cs ≡ true
 unfolding AreScalars
 all_are [] scalars = refl
 all_are (c ∷ cs) scalars = and_from _ _ scalars.0 (all_are cs scalars.1)
@@ -208,25 +212,25 @@ quoted_leads σ fs here use_ text cs h below well begins =
     (λ rest k. refl)))
 
 module _ (σ : Setting) (fs : List Frame) (here : Place) (begins : (p b : ℕ) → (is_ascii_lowercase b || eqb b 39) ≡ true → step_place σ here fs p b ≡ begin_name fs b)
-    (name : List ℕ) (later : State) (turn : (q : ℕ) (rest : List ℕ) → no_word rest ≡ true → read_on σ (spot (Word name) fs) q rest ≡ read_on σ later q rest) (same : spot (name_ended fs name) fs ≡ later) where
-  word_text : (text : List ℕ) → text ≡ name → is_plain_word text ≡ true → length name ≤ 255 → Leads σ (spot here fs) text later no_word
+    (name : List ℕ) (Q : List ℕ → Bool) (later : State) (turn : (q : ℕ) (rest : List ℕ) → Q rest ≡ true → read_on σ (spot (Word name) fs) q rest ≡ read_on σ later q rest) (same : spot (name_ended fs name) fs ≡ later) where
+  word_text : (text : List ℕ) → text ≡ name → is_plain_word text ≡ true → length name ≤ 255 → Leads σ (spot here fs) text later Q
   word_text [] is plain short = absurd (let no : false ≡ true = plain in cc)
   word_text (b ∷ others) is plain short =
       let parts = and_parts (is_ascii_lowercase b) (list_all is_word_byte others) plain in
-      leads_first σ here fs b others (spot (Word (b ∷ [])) fs) later no_word (λ p. begins p b (or_left (is_ascii_lowercase b) (eqb b 39) parts.0) ∙ rw parts.0 refl)
-      (leads_turn σ (spot (Word (b ∷ [])) fs) (spot (Word (b ∷ others)) fs) later others no_word
+      leads_first σ here fs b others (spot (Word (b ∷ [])) fs) later Q (λ p. begins p b (or_left (is_ascii_lowercase b) (eqb b 39) parts.0) ∙ rw parts.0 refl)
+      (leads_turn σ (spot (Word (b ∷ [])) fs) (spot (Word (b ∷ others)) fs) later others Q
       (word_leads σ fs others (b ∷ []) parts.1 (subst (λ (t : List ℕ). length t ≤ 255) (sym is) short))
       (λ q rest quiet. ap (λ (t : List ℕ). read_on σ (spot (Word t) fs) q rest) is ∙ turn q rest quiet))
 
-  quote_text : (text cs : List ℕ) → Quoted 39 text cs → name ≡ encode_utf8_all cs → length name ≤ 255 → Leads σ (spot here fs) text later no_word
+  quote_text : (text cs : List ℕ) → Quoted 39 text cs → name ≡ encode_utf8_all cs → length name ≤ 255 → Leads σ (spot here fs) text later Q
   quote_text text cs h is short =
-      leads_turn σ (spot here fs) (spot (quote_ended fs (ForName 255) cs) fs) later text no_word
+      leads_turn σ (spot here fs) (spot (quote_ended fs (ForName 255) cs) fs) later text Q
       (quoted_leads σ fs here (ForName 255) text cs h (name_below σ.rules.mode 255 cs (scalars_of 39 h.inside cs h.characters) (subst (λ (t : List ℕ). length t ≤ 255) is short))
       (and_from _ _ (all_are cs (scalars_of 39 h.inside cs h.characters)) (le-leb (length (encode_utf8_all cs)) 255 (subst (λ (t : List ℕ). length t ≤ 255) is short)))
       (λ p. begins p 39 refl))
       (λ q rest quiet. ap (λ (t : List ℕ). read_on σ (spot (name_ended fs t) fs) q rest) (sym is) ∙ ap (λ (s : State). read_on σ s q rest) same)
 
-  pub atom_leads : (text : List ℕ) → SpellsAtom text name → Leads σ (spot here fs) text later no_word
+  pub atom_leads : (text : List ℕ) → SpellsAtom text name → Leads σ (spot here fs) text later Q
   atom_leads text (inl h, short) = word_text text h.0 (subst (λ (t : List ℕ). is_plain_word t ≡ true) (sym h.0) h.1) short
   atom_leads text (inr h, short) = quote_text text h.0 h.1 h.2 short
 
@@ -234,18 +238,59 @@ module _ (σ : Setting) (fs : List Frame) (here : Place) (begins : (p b : ℕ) �
 pub name_leads : (σ : Setting) (fs : List Frame) (here : Place) (text name : List ℕ) → takes_name fs ≡ true
     → ((p b : ℕ) → (is_ascii_lowercase b || eqb b 39) ≡ true → step_place σ here fs p b ≡ begin_name fs b) → SpellsAtom text name → Leads σ (spot here fs) text (spot (AfterName name) fs) no_word
 name_leads σ fs here text name takes begins h =
-    atom_leads σ fs here begins name (spot (AfterName name) fs) turn (ap (λ (t : Bool). spot (cond t (AfterName name) (After (tree.Atom name))) fs) takes) text h
+    atom_leads σ fs here begins name no_word (spot (AfterName name) fs) turn (ap (λ (t : Bool). spot (cond t (AfterName name) (After (tree.Atom name))) fs) takes) text h
   where
     turn : (q : ℕ) (rest : List ℕ) → no_word rest ≡ true → read_on σ (spot (Word name) fs) q rest ≡ read_on σ (spot (AfterName name) fs) q rest
     turn q [] quiet = at_the_end σ (spot (Word name) fs) q ∙ sym (at_the_end σ (spot (AfterName name) fs) q)
     turn q (b ∷ rest) quiet = same_step σ (Word name) (AfterName name) fs fs q b rest (named_off σ fs name q b takes (not-true _ quiet))
 
--- an atom where a term stands
-pub term_atom_leads : (σ : Setting) (fs : List Frame) (here : Place) (text name : List ℕ) → takes_name fs ≡ false → is_listing σ.rules.mode ≡ false
-    → ((p b : ℕ) → (is_ascii_lowercase b || eqb b 39) ≡ true → step_place σ here fs p b ≡ begin_name fs b) → SpellsAtom text name → Leads σ (spot here fs) text (spot (After (tree.Atom name)) fs) no_word
-term_atom_leads σ fs here text name takes script begins h =
-    atom_leads σ fs here begins name (spot (After (tree.Atom name)) fs) turn (ap (λ (t : Bool). spot (cond t (AfterName name) (After (tree.Atom name))) fs) takes) text h
-  where
-    turn : (q : ℕ) (rest : List ℕ) → no_word rest ≡ true → read_on σ (spot (Word name) fs) q rest ≡ read_on σ (spot (After (tree.Atom name)) fs) q rest
-    turn q [] quiet = at_the_end σ (spot (Word name) fs) q ∙ sym (at_the_end σ (spot (After (tree.Atom name)) fs) q)
-    turn q (b ∷ rest) quiet = same_step σ (Word name) (After (tree.Atom name)) fs fs q b rest (atom_off σ fs name q b takes script (not-true _ quiet))
+-- ---- an atom where a term stands
+
+module _ (σ : Setting) (fs : List Frame) where
+  -- where no name comes, the word `fun` of a listing reads on as the atom
+  fun_alike : (c : Bool) (p : ℕ) (rest : List ℕ) → no_name c rest ≡ true → read_on σ (commented c Fun fs) p rest ≡ read_on σ (commented c (After (tree.Atom (codes "fun"))) fs) p rest
+  fun_alike c p [] quiet = at_the_end σ (commented c Fun fs) p ∙ sym (at_the_end σ (commented c (After (tree.Atom (codes "fun"))) fs) p)
+  fun_alike true p (b ∷ rest) quiet = go (eqb b 10) refl (λ d h. fun_alike d (suc p) rest h)
+    where
+      go : (t : Bool) → eqb b 10 ≡ t → ((d : Bool) → no_name d rest ≡ true → read_on σ (commented d Fun fs) (suc p) rest ≡ read_on σ (commented d (After (tree.Atom (codes "fun"))) fs) (suc p) rest)
+          → read_on σ (commented true Fun fs) p (b ∷ rest) ≡ read_on σ (commented true (After (tree.Atom (codes "fun"))) fs) p (b ∷ rest)
+      go true e more =
+          line_end σ Fun fs (between_fun σ fs) p b rest e
+          ∙ (more false (ap (λ (t : Bool). no_name (not t) rest) (sym e) ∙ quiet) ∙ sym (line_end σ (After (tree.Atom (codes "fun"))) fs (between_after σ (tree.Atom (codes "fun")) fs) p b rest e))
+      go false e more =
+          in_line σ Fun fs (between_fun σ fs) p b rest e
+          ∙ (more true (ap (λ (t : Bool). no_name (not t) rest) (sym e) ∙ quiet) ∙ sym (in_line σ (After (tree.Atom (codes "fun"))) fs (between_after σ (tree.Atom (codes "fun")) fs) p b rest e))
+  fun_alike false p (b ∷ rest) quiet = go (is_space b) (eqb b 37) refl refl (λ d h. fun_alike d (suc p) rest h)
+    where
+      chosen : (s m : Bool) → is_space b ≡ s → eqb b 37 ≡ m → cond s (no_name false rest) (cond m (no_name true rest) (not (is_ascii_lowercase b || eqb b 39))) ≡ true
+      chosen s m e f = (λ i. cond (sym e i) (no_name false rest) (cond (sym f i) (no_name true rest) (not (is_ascii_lowercase b || eqb b 39)))) ∙ quiet
+
+      go : (s m : Bool) → is_space b ≡ s → eqb b 37 ≡ m → ((d : Bool) → no_name d rest ≡ true → read_on σ (commented d Fun fs) (suc p) rest ≡ read_on σ (commented d (After (tree.Atom (codes "fun"))) fs) (suc p) rest)
+          → read_on σ (spot Fun fs) p (b ∷ rest) ≡ read_on σ (spot (After (tree.Atom (codes "fun"))) fs) p (b ∷ rest)
+      go true m e f more =
+          byte_goes σ Fun fs p b rest _ (space_step σ Fun fs (between_fun σ fs) p b e)
+          ∙ (more false (chosen true m e f) ∙ sym (byte_goes σ (After (tree.Atom (codes "fun"))) fs p b rest _ (space_step σ (After (tree.Atom (codes "fun"))) fs (between_after σ (tree.Atom (codes "fun")) fs) p b e)))
+      go false true e f more =
+          byte_goes σ Fun fs p b rest _ (comment_step σ Fun fs (between_fun σ fs) p b e f)
+          ∙ (more true (chosen false true e f) ∙ sym (byte_goes σ (After (tree.Atom (codes "fun"))) fs p b rest _ (comment_step σ (After (tree.Atom (codes "fun"))) fs (between_after σ (tree.Atom (codes "fun")) fs) p b e f)))
+      go false false e f more =
+          same_step σ Fun (After (tree.Atom (codes "fun"))) fs fs p b rest (fun_atom σ fs p b (or_from _ _ e f) (not-true _ (chosen false false e f)))
+
+  pub term_atom_leads : (here : Place) (text name : List ℕ) → takes_name fs ≡ false
+      → ((p b : ℕ) → (is_ascii_lowercase b || eqb b 39) ≡ true → step_place σ here fs p b ≡ begin_name fs b) → SpellsAtom text name → Leads σ (spot here fs) text (spot (After (tree.Atom name)) fs) (good_end (is_top fs))
+  term_atom_leads here text name takes begins h =
+      atom_leads σ fs here begins name (good_end (is_top fs)) (spot (After (tree.Atom name)) fs) turn (ap (λ (t : Bool). spot (cond t (AfterName name) (After (tree.Atom name))) fs) takes) text h
+    where
+      turn : (q : ℕ) (rest : List ℕ) → good_end (is_top fs) rest ≡ true → read_on σ (spot (Word name) fs) q rest ≡ read_on σ (spot (After (tree.Atom name)) fs) q rest
+      turn q [] good = at_the_end σ (spot (Word name) fs) q ∙ sym (at_the_end σ (spot (After (tree.Atom name)) fs) q)
+      turn q (b ∷ rest) good = choose (is_listing σ.rules.mode && bytes_eq name (codes "fun")) refl
+        where
+          quiet : is_word_byte b ≡ false
+          quiet = not-true (is_word_byte b) (good_quiet (is_top fs) (b ∷ rest) good)
+
+          choose : (t : Bool) → (is_listing σ.rules.mode && bytes_eq name (codes "fun")) ≡ t → read_on σ (spot (Word name) fs) q (b ∷ rest) ≡ read_on σ (spot (After (tree.Atom name)) fs) q (b ∷ rest)
+          choose false e = same_step σ (Word name) (After (tree.Atom name)) fs fs q b rest (atom_off σ fs name q b takes e quiet)
+          choose true e =
+              let same : name ≡ codes "fun" = (bytes_eq-Decides name (codes "fun")).0 (and_parts (is_listing σ.rules.mode) (bytes_eq name (codes "fun")) e).1 in
+              same_step σ (Word name) Fun fs fs q b rest (fun_off σ fs name q b takes e quiet)
+              ∙ (fun_alike false q (b ∷ rest) (good_name (is_top fs) (b ∷ rest) good) ∙ ap (λ (n : List ℕ). read_on σ (spot (After (tree.Atom n)) fs) q (b ∷ rest)) (sym same))

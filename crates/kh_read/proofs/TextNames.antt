@@ -84,7 +84,8 @@ quoted_name mode text points h = (
 
 module _ (σ : Setting) (fs : List Frame) (A : Type 0) (Stands : List ℕ → A → Type 0) (make : List ℕ → A) (next : A → State)
     (stands : (text name : List ℕ) → SpellsAtom text name → Stands text (make name))
-    (word_goes : (name : List ℕ) (q b : ℕ) → is_word_byte b ≡ false → (rest : List ℕ) → read_on σ (spot (Word name) fs) q (b ∷ rest) ≡ read_on σ (next (make name)) q (b ∷ rest))
+    (word_then : (text u : List ℕ) (c : ℕ) (after : List ℕ) (p q : ℕ) (start : Reading) → text ≡ u ++ c ∷ after → SpellsAtom u u → is_word_byte c ≡ false
+    → start ≡ read_on σ (spot (Word u) fs) q (c ∷ after) → q ≡ p + length u → Reads σ any Stands next p text start)
     (quote_goes : (name : List ℕ) → spot (name_ended fs name) fs ≡ next (make name)) where
   word_end : (b p : ℕ) (rest : List ℕ) (start : Reading) → is_ascii_lowercase b ≡ true → start ≡ read_on σ (spot (Word (b ∷ [])) fs) (suc p) rest
       → Reads σ no_word (MoreWord (b ∷ [])) (λ n. spot (Word n) fs) (suc p) rest (read_on σ (spot (Word (b ∷ [])) fs) (suc p) rest)
@@ -93,8 +94,9 @@ module _ (σ : Setting) (fs : List Frame) (A : Type 0) (Stands : List ℕ → A 
       part [] (make name) (goes ∙ (h ∙ at_the_end σ (spot (Word name) fs) q))
       (subst (λ (t : List ℕ). Stands t (make name)) (ap (λ (t : List ℕ). b ∷ t) (sym (append-nil rest ∙ (parts ∙ append-nil u)))) (stands (b ∷ u) name (plain_name b u name e more)))
   word_end b p rest start e goes (whole u (c ∷ after) name q parts more good h place) =
-      whole (b ∷ u) (c ∷ after) (make name) q (ap (λ (t : List ℕ). b ∷ t) parts) (stands (b ∷ u) name (plain_name b u name e more)) refl
-      (goes ∙ (h ∙ word_goes name q c (not-true _ good) after)) (omega (arith, place))
+      word_then (b ∷ rest) (b ∷ u) c after p q start (ap (λ (t : List ℕ). b ∷ t) parts)
+      (subst (λ (n : List ℕ). SpellsAtom (b ∷ u) n) more.value (plain_name b u name e more)) (not-true _ good)
+      (goes ∙ (h ∙ ap (λ (n : List ℕ). read_on σ (spot (Word n) fs) q (c ∷ after)) more.value)) (omega (arith, place))
   word_end b p rest start e goes (part m name h more) = part m (make name) (goes ∙ h) (stands (b ∷ (rest ++ m)) name (plain_name b (rest ++ m) name e more))
   word_end b p rest start e goes (halted halt q h) = halted halt q (goes ∙ h)
 
@@ -119,21 +121,16 @@ pub named_off : (σ : Setting) (fs : List Frame) (name : List ℕ) (q b : ℕ) �
 unfolding step_place
 named_off σ fs name q b takes e = word_ends σ fs name q b e ∙ ap (λ (t : Bool). step_between σ (cond t (AfterName name) (cond (is_listing σ.rules.mode && bytes_eq name (codes "fun")) Fun (After (tree.Atom name)))) fs q b) takes
 
-pub atom_off : (σ : Setting) (fs : List Frame) (name : List ℕ) (q b : ℕ) → takes_name fs ≡ false → is_listing σ.rules.mode ≡ false → is_word_byte b ≡ false → step_place σ (Word name) fs q b ≡ step_place σ (After (tree.Atom name)) fs q b
-unfolding step_place
-atom_off σ fs name q b takes script e =
-    word_ends σ fs name q b e ∙ (λ i. step_between σ (cond (takes i) (AfterName name) (cond (script i && bytes_eq name (codes "fun")) Fun (After (tree.Atom name)))) fs q b)
+-- a word ends, where the state behind it reads on as one behind its name
+pub word_is : (σ : Setting) (fs : List Frame) (A : Type 0) (Stands : List ℕ → A → Type 0) (make : List ℕ → A) (next : A → State)
+    → ((text name : List ℕ) → SpellsAtom text name → Stands text (make name)) → (text u : List ℕ) (c : ℕ) (after : List ℕ) (p q : ℕ) (start : Reading) → text ≡ u ++ c ∷ after → SpellsAtom u u
+    → read_on σ (spot (Word u) fs) q (c ∷ after) ≡ read_on σ (next (make u)) q (c ∷ after) → start ≡ read_on σ (spot (Word u) fs) q (c ∷ after) → q ≡ p + length u → Reads σ any Stands next p text start
+word_is σ fs A Stands make next stands text u c after p q start parts is same e place = whole u (c ∷ after) (make u) q parts (stands u u is) refl (e ∙ same) place
 
 -- a name of a closure
 pub named : (σ : Setting) (fs : List Frame) → takes_name fs ≡ true → (here : Place) (p b : ℕ) (rest : List ℕ) → step_place σ here fs p b ≡ begin_name fs b
     → Reads σ any SpellsAtom (λ name. spot (AfterName name) fs) p (b ∷ rest) (read_on σ (spot here fs) p (b ∷ rest))
 named σ fs takes = name_begins σ fs (List ℕ) SpellsAtom (λ name. name) (λ name. spot (AfterName name) fs) (λ text name r. r)
-    (λ name q b e rest. same_step σ (Word name) (AfterName name) fs fs q b rest (named_off σ fs name q b takes e))
-    (λ name. ap (λ (t : Bool). spot (cond t (AfterName name) (After (tree.Atom name))) fs) takes)
-
--- an atom where a term stands, in a script
-pub atoms : (σ : Setting) (fs : List Frame) → takes_name fs ≡ false → is_listing σ.rules.mode ≡ false → (here : Place) (p b : ℕ) (rest : List ℕ) → step_place σ here fs p b ≡ begin_name fs b
-    → Reads σ any (SpellsFlat σ.rules) (λ t. spot (After t) fs) p (b ∷ rest) (read_on σ (spot here fs) p (b ∷ rest))
-atoms σ fs takes script = name_begins σ fs TermTree (SpellsFlat σ.rules) tree.Atom (λ t. spot (After t) fs) (λ text name r. atom text name r)
-    (λ name q b e rest. same_step σ (Word name) (After (tree.Atom name)) fs fs q b rest (atom_off σ fs name q b takes script e))
+    (λ text u c after p q start parts is e goes place. word_is σ fs (List ℕ) SpellsAtom (λ name. name) (λ name. spot (AfterName name) fs) (λ t name r. r) text u c after p q start parts is
+    (same_step σ (Word u) (AfterName u) fs fs q c after (named_off σ fs u q c takes e)) goes place)
     (λ name. ap (λ (t : Bool). spot (cond t (AfterName name) (After (tree.Atom name))) fs) takes)

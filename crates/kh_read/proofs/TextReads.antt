@@ -52,11 +52,11 @@ module _ {A : Type 0} (σ : Setting) (R : List ℕ → A → Type 0) (fs : List 
       (not_from_false _ mark) (e ∙ goes)
       (omega (arith, place, place2, length-append blank (u ++ blank2), length-append u blank2))
 
-  pub leading : (blank : List ℕ) (text rest : List ℕ) (b p q : ℕ) (start : Reading) → IsBlank blank → text ≡ blank ++ b ∷ rest
-      → start ≡ read_on σ (spot Before fs) q (b ∷ rest) → q ≡ p + length blank → ((x : A) → IsBetween σ (here x) (over x))
-      → Reads σ any R behind_value q (b ∷ rest) (read_on σ (spot Before fs) q (b ∷ rest)) → Reads σ begins_no_blank (Wide R) behind_value p text start
-  leading blank text rest b p q start blanks parts e place betweens (halted halt q2 h) = halted halt q2 (e ∙ h)
-  leading blank text rest b p q start blanks parts e place betweens (part more x h r) =
+  pub leading_from : (begin : Place) (blank : List ℕ) (text rest : List ℕ) (b p q : ℕ) (start : Reading) → IsBlank blank → text ≡ blank ++ b ∷ rest
+      → start ≡ read_on σ (spot begin fs) q (b ∷ rest) → q ≡ p + length blank → ((x : A) → IsBetween σ (here x) (over x))
+      → Reads σ any R behind_value q (b ∷ rest) (read_on σ (spot begin fs) q (b ∷ rest)) → Reads σ begins_no_blank (Wide R) behind_value p text start
+  leading_from begin blank text rest b p q start blanks parts e place betweens (halted halt q2 h) = halted halt q2 (e ∙ h)
+  leading_from begin blank text rest b p q start blanks parts e place betweens (part more x h r) =
       part more x (e ∙ h) (record {
         before = blank;
         inside = (b ∷ rest) ++ more;
@@ -66,16 +66,16 @@ module _ {A : Type 0} (σ : Setting) (R : List ℕ → A → Type 0) (fs : List 
         blank_behind = no_blank;
         parts = ap (λ (t : List ℕ). t ++ more) parts ∙ (append_assoc blank (b ∷ rest) more ∙ ap (λ (t : List ℕ). blank ++ t) (sym (append-nil ((b ∷ rest) ++ more))));
       })
-  leading blank text rest b p q start blanks parts e place betweens (whole u rest2 x q2 parts2 r good h place2) =
+  leading_from begin blank text rest b p q start blanks parts e place betweens (whole u rest2 x q2 parts2 r good h place2) =
       trailing blank text u rest2 x p q2 start blanks (parts ∙ ap (λ (t : List ℕ). blank ++ t) parts2) r (e ∙ h) (omega (arith, place, place2))
       (skips σ (here x) (over x) (betweens x) false q2 rest2)
 
-  pub wide : IsBetween σ Before fs → ((x : A) → IsBetween σ (here x) (over x)) → (sample : List ℕ) (x : A) → R sample x
-      → ((b : ℕ) (rest : List ℕ) (q : ℕ) → is_blank_byte b ≡ false → Reads σ any R behind_value q (b ∷ rest) (read_on σ (spot Before fs) q (b ∷ rest)))
-      → (p : ℕ) (text : List ℕ) → Reads σ begins_no_blank (Wide R) behind_value p text (read_on σ (spot Before fs) p text)
-  wide between betweens sample x r core p text = go (skips σ Before fs between false p text)
+  pub wide_from : (begin : Place) → IsBetween σ begin fs → ((x : A) → IsBetween σ (here x) (over x)) → (sample : List ℕ) (x : A) → R sample x
+      → ((b : ℕ) (rest : List ℕ) (q : ℕ) → is_blank_byte b ≡ false → Reads σ any R behind_value q (b ∷ rest) (read_on σ (spot begin fs) q (b ∷ rest)))
+      → (p : ℕ) (text : List ℕ) → Reads σ begins_no_blank (Wide R) behind_value p text (read_on σ (spot begin fs) p text)
+  wide_from begin between betweens sample x r core p text = go (skips σ begin fs between false p text)
     where
-      go : Skips σ Before fs false p text → Reads σ begins_no_blank (Wide R) behind_value p text (read_on σ (spot Before fs) p text)
+      go : Skips σ begin fs false p text → Reads σ begins_no_blank (Wide R) behind_value p text (read_on σ (spot begin fs) p text)
       go (to_end more cut blanks ends) =
           part (more ++ sample) x cut (record {
             before = text ++ more;
@@ -87,7 +87,18 @@ module _ {A : Type 0} (σ : Setting) (R : List ℕ → A → Type 0) (fs : List 
             parts = sym (append_assoc text more sample) ∙ ap (λ (t : List ℕ). (text ++ more) ++ t) (sym (append-nil sample));
           })
       go (to_mark blank b rest q parts blanks mark goes place) =
-          leading blank text rest b p q _ blanks parts goes place betweens (core b rest q mark)
+          leading_from begin blank text rest b p q _ blanks parts goes place betweens (core b rest q mark)
+
+  -- the same where a value has to come
+  pub leading : (blank : List ℕ) (text rest : List ℕ) (b p q : ℕ) (start : Reading) → IsBlank blank → text ≡ blank ++ b ∷ rest
+      → start ≡ read_on σ (spot Before fs) q (b ∷ rest) → q ≡ p + length blank → ((x : A) → IsBetween σ (here x) (over x))
+      → Reads σ any R behind_value q (b ∷ rest) (read_on σ (spot Before fs) q (b ∷ rest)) → Reads σ begins_no_blank (Wide R) behind_value p text start
+  leading = leading_from Before
+
+  pub wide : IsBetween σ Before fs → ((x : A) → IsBetween σ (here x) (over x)) → (sample : List ℕ) (x : A) → R sample x
+      → ((b : ℕ) (rest : List ℕ) (q : ℕ) → is_blank_byte b ≡ false → Reads σ any R behind_value q (b ∷ rest) (read_on σ (spot Before fs) q (b ∷ rest)))
+      → (p : ℕ) (text : List ℕ) → Reads σ begins_no_blank (Wide R) behind_value p text (read_on σ (spot Before fs) p text)
+  wide = wide_from Before
 
 -- ---- one after another
 
@@ -174,6 +185,19 @@ only_mark σ Good c T later p b rest start on halt goes stops second = go (eqb b
     go : (t : Bool) → eqb b c ≡ t → Reads σ Good (Marked c T) later p (b ∷ rest) start
     go true e = subst (λ (x : ℕ). Reads σ Good (Marked c T) later p (x ∷ rest) start) (sym (eqb-true b c e)) (reads_mark σ Good c T later p rest start on (goes e) second)
     go false e = halted halt p (stops e)
+
+-- what stands behind a front
+pub reads_front : {B : Type 0} (σ : Setting) (Good : List ℕ → Bool) (S : List ℕ → B → Type 0) (later : B → State) (front : List ℕ) (p q : ℕ) (all text : List ℕ) (start : Reading)
+    → all ≡ front ++ text → q ≡ p + length front → Reads σ Good (λ u y. S (front ++ u) y) later q text start → Reads σ Good S later p all start
+reads_front σ Good S later front p q all text start is place (whole u rest y q2 parts s good e place2) =
+    whole (front ++ u) rest y q2 (is ∙ (ap (λ (w : List ℕ). front ++ w) parts ∙ sym (append_assoc front u rest))) s good e (omega (arith, place, place2, length-append front u))
+reads_front σ Good S later front p q all text start is place (part more y e s) =
+    part more y e (subst (λ (w : List ℕ). S w y) (sym (ap (λ (w : List ℕ). w ++ more) is ∙ append_assoc front text more)) s)
+reads_front σ Good S later front p q all text start is place (halted halt q2 e) = halted halt q2 e
+
+-- this very text, and a value
+abbrev pub Exactly : {B : Type 0} → List ℕ → B → List ℕ → B → Type 0
+Exactly word x text y = (text ≡ word) × (y ≡ x)
 
 -- nothing more, and a value
 pub record Nothing {B : Type 0} (x : B) (text : List ℕ) (y : B) : Type 0 where

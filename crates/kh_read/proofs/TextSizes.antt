@@ -1,4 +1,4 @@
--- A term that is too large: where its form begins, in a script.
+-- A term that is too large: where its form begins.
 use Rattle.std.proofs.Common.{◌≡◌, ◌≤◌, ◌<◌, ℕ, zero, suc, ◌+◌, Bool, true, false, not, ◌&&◌, ◌||◌, eqb, ltb, List, [], ◌∷◌, ◌++◌, length, take, drop, inl, inr, refl, sym, ap, subst, ◌∙◌, arith, append_assoc, IsTrue, ℤ, codes}
 use Rattle.std.specs.Prelude.{◌⊎◌}
 use Rattle.std.specs.Char.{is_ascii_digit, is_ascii_lowercase}
@@ -10,7 +10,6 @@ use Rattle.std.proofs.lemmas.Slice.Eq.{bytes_eq-Decides}
 use Rattle.kh_term.specs.declared.tree.TermTree.{TermTree}
 use Rattle.kh_term.specs.Size.{size_of}
 use Rattle.kh_text_defs.specs.declared.mode.Mode.{Mode}
-use Rattle.kh_text_defs.specs.declared.mode.Mode.TheVariants.{Script}
 use Rattle.kh_text_defs.specs.Atoms.{is_word_byte, is_plain_word}
 use Rattle.kh_text_defs.specs.Blanks.{is_space, IsBlank, no_blank, Wide, begins_no_blank}
 use Rattle.kh_text_defs.specs.Faults.{max_levels, max_size, SizeFaultAt}
@@ -120,8 +119,8 @@ spelled_starts rules (suc levels) text t (inr h) = deep_starts rules (Spells rul
 
 -- ---- a form that has just ended
 
-pub dotted_form : (σ : Setting) (script : σ.rules.mode ≡ Script) (text : List ℕ) (t : TermTree) (p : ℕ) → Path σ (dotted t) fresh p text → IsForm σ.rules σ.levels text t
-dotted_form σ script text t p path = go (forms σ script p text)
+pub dotted_form : (σ : Setting) (text : List ℕ) (t : TermTree) (p : ℕ) → Path σ (dotted t) fresh p text → IsForm σ.rules σ.levels text t
+dotted_form σ text t p path = go (forms σ p text)
   where
     reading : read_on σ fresh p text ≡ Ended t (p + length text)
     reading = ap (λ (w : List ℕ). read_on σ fresh p w) (sym (append-nil text)) ∙ (goes σ (dotted t) fresh p text [] path ∙ at_the_end σ (dotted t) (p + length text))
@@ -148,20 +147,20 @@ dotted_form σ script text t p path = go (forms σ script p text)
 
 -- ---- too large
 
-module _ (reached : State) (p : ℕ) (front : List ℕ) (path : Path within reached fresh p front) (b : ℕ) (behind_ : List ℕ) where
+module _ (mode : Mode) (reached : State) (p : ℕ) (front : List ℕ) (path : Path (within mode) reached fresh p front) (b : ℕ) (behind_ : List ℕ) where
   record LargeDot : Type 0 where
     term : TermTree
     big : ltb max_size (size_of term) ≡ true
-    goes_on : step (make Script true max_levels false) reached (p + length front) b ≡ at (Dotted term) []
+    goes_on : step (make mode true max_levels false) reached (p + length front) b ≡ at (Dotted term) []
 
-  uncounted_goes : step within reached (p + length front) b ≡ Stop Large
-      → Agrees (true ≡ false) (length reached.frames < max_levels) (false ≡ false) (step within reached (p + length front) b) (step (make Script true max_levels false) reached (p + length front) b) → LargeDot
-  uncounted_goes stops (same f) = absurd (let clash : false ≡ true = (step_limits Script true max_levels false reached (p + length front) b).large (sym f ∙ stops) in cc)
+  uncounted_goes : step (within mode) reached (p + length front) b ≡ Stop Large
+      → Agrees (true ≡ false) (length reached.frames < max_levels) (false ≡ false) (step (within mode) reached (p + length front) b) (step (make mode true max_levels false) reached (p + length front) b) → LargeDot
+  uncounted_goes stops (same f) = absurd (let clash : false ≡ true = (step_limits mode true max_levels false reached (p + length front) b).large (sym f ∙ stops) in cc)
   uncounted_goes stops (number other f on) = absurd (let clash : Stop Large ≡ Stop (Number other) = sym stops ∙ f in cc)
   uncounted_goes stops (level f on) = absurd (let clash : Stop Large ≡ Stop Deep = sym stops ∙ f in cc)
   uncounted_goes stops (large t f big on) = record { term = t; big = big; goes_on = on refl }
 
-  fault_of : (t : TermTree) → ltb max_size (size_of t) ≡ true → (h : IsForm within.rules max_levels (front ++ b ∷ []) t) → SizeFaultAt Script (front ++ b ∷ behind_) (length h.1.before)
+  fault_of : (t : TermTree) → ltb max_size (size_of t) ≡ true → (h : IsForm (within mode).rules max_levels (front ++ b ∷ []) t) → SizeFaultAt mode (front ++ b ∷ behind_) (length h.1.before)
   fault_of t big h = (
     (h.1.inside ++ h.1.behind) ++ 46 ∷ [],
     behind_,
@@ -174,7 +173,7 @@ module _ (reached : State) (p : ℕ) (front : List ℕ) (path : Path within reac
   )
     where
       starts : Starts h.1.inside
-      starts = spelled_starts within.rules max_levels h.1.inside t h.1.stands
+      starts = spelled_starts (within mode).rules max_levels h.1.inside t h.1.stands
 
       first_byte : (h.1.inside ++ h.1.behind) ++ 46 ∷ [] ≡ starts.first ∷ ((starts.others ++ h.1.behind) ++ 46 ∷ [])
       first_byte = ap (λ (w : List ℕ). (w ++ h.1.behind) ++ 46 ∷ []) starts.parts
@@ -185,10 +184,10 @@ module _ (reached : State) (p : ℕ) (front : List ℕ) (path : Path within reac
           ∙ (ap (λ (w : List ℕ). w ++ 46 ∷ behind_) h.1.parts ∙ append_assoc h.1.before (h.1.inside ++ h.1.behind) (46 ∷ behind_))))
 
   -- the form begins somewhere behind blanks
-  pub size_fault : step within reached (p + length front) b ≡ Stop Large → (first : ℕ) × SizeFaultAt Script (front ++ b ∷ behind_) first
+  pub size_fault : step (within mode) reached (p + length front) b ≡ Stop Large → (first : ℕ) × SizeFaultAt mode (front ++ b ∷ behind_) first
   size_fault stops =
-      let dot : LargeDot = uncounted_goes stops (step_agrees Script true true max_levels max_levels true false (λ e. e) (omega (arith)) (λ e. refl) reached (p + length front) b) in
-      let way : Path (make Script true max_levels false) reached fresh p front = wider_path Script true true max_levels max_levels true false (λ e. e) (omega (arith)) (λ e. refl) reached front fresh p path in
-      let h : IsForm within.rules max_levels (front ++ b ∷ []) dot.term =
-      dotted_form (make Script true max_levels false) refl (front ++ b ∷ []) dot.term p (longer_path (make Script true max_levels false) reached (dotted dot.term) fresh p front b way dot.goes_on) in
+      let dot : LargeDot = uncounted_goes stops (step_agrees mode true true max_levels max_levels true false (λ e. e) (omega (arith)) (λ e. refl) reached (p + length front) b) in
+      let way : Path (make mode true max_levels false) reached fresh p front = wider_path mode true true max_levels max_levels true false (λ e. e) (omega (arith)) (λ e. refl) reached front fresh p path in
+      let h : IsForm (within mode).rules max_levels (front ++ b ∷ []) dot.term =
+      dotted_form (make mode true max_levels false) (front ++ b ∷ []) dot.term p (longer_path (make mode true max_levels false) reached (dotted dot.term) fresh p front b way dot.goes_on) in
       (length h.1.before, fault_of dot.term dot.big h)

@@ -1,4 +1,4 @@
--- Reading terms, in a script.
+-- Reading terms.
 use Rattle.std.proofs.Common.{◌≡◌, ◌≤◌, ◌<◌, ℕ, zero, suc, ◌+◌, Bool, true, false, not, ◌&&◌, ◌||◌, cond, eqb, ltb, List, [], ◌∷◌, ◌++◌, length, inl, inr, refl, sym, ap, subst, ◌∙◌, arith, append_assoc}
 use Rattle.std.specs.Prelude.{◌⊎◌, codes}
 use Rattle.std.specs.Char.{is_ascii_digit, is_ascii_lowercase}
@@ -16,17 +16,14 @@ use Rattle.kh_read.proofs.TextReads.{Reads, whole, part, halted, any, reads_as}
 use Rattle.kh_read.proofs.TextQuotes.{reads_byte}
 use Rattle.kh_read.proofs.TextDigits.{integer}
 use Rattle.kh_read.proofs.TextFloats.{TakesTerm, integer_ends}
-use Rattle.kh_read.proofs.TextNames.{atoms}
+use Rattle.kh_read.proofs.TextReferences.{atoms}
 use Rattle.kh_read.proofs.TextBrackets.{flat, deep, Ready, behind_term, TermReads}
 use Rattle.kh_read.proofs.TextLists.{tuples, lists, texts}
 use Rattle.kh_read.proofs.TextMaps.{maps}
 use Rattle.kh_read.proofs.TextClosures.{closures}
 use Rattle.kh_read.proofs.TextBinaries.{binaries}
 
-module _ (σ : Setting) (script : σ.rules.mode ≡ Script) where
-  no_listing : is_listing σ.rules.mode ≡ false
-  no_listing = ap is_listing script
-
+module _ (σ : Setting) where
   module _ (fs : List Frame) (p b : ℕ) where
     pub begins_integer : (eqb b 45 || is_ascii_digit b) ≡ true → begin_term σ fs p b ≡ begin_integer σ.rules fs p b
     unfolding begin_term
@@ -224,7 +221,7 @@ module _ (σ : Setting) (script : σ.rules.mode ≡ Script) where
         go true u v w x y z e f g h i j k =
             of_flat p (b ∷ rest) _ (integer_ends σ fs (record { segment = ready.segment; arity = ready.arity }) p p (b ∷ rest) _
             (integer σ fs p b rest here (begins ∙ begins_integer fs p b e)))
-        go false true v w x y z e f g h i j k = of_flat p (b ∷ rest) _ (atoms σ fs ready.name no_listing here p b rest (begins ∙ begins_name fs p b e f))
+        go false true v w x y z e f g h i j k = of_flat p (b ∷ rest) _ (atoms σ fs ready.name here p b rest (begins ∙ begins_name fs p b e f))
         go false false true w x y z e f g h i j k =
             opening here fault (spot Before (InList [] ∷ fs)) p b 91 rest (begins ∙ begins_list fs p b e f g) (eqb-true b 91 g) (λ d start is. d.list_read p rest start is)
         go false false false true x y z e f g h i j k =
@@ -234,7 +231,7 @@ module _ (σ : Setting) (script : σ.rules.mode ≡ Script) where
         go false false false false false true z e f g h i j k =
             reads_byte σ any (λ u t. SpellsFlat σ.rules (60 ∷ u) t) (Spells σ.rules l) (behind_term fs) (behind_term fs) (λ t. t) p b rest _ _
             (λ u t r. subst (λ (c : ℕ). Spells σ.rules l (c ∷ u) t) (sym (eqb-true b 60 j)) (flat σ.rules l (60 ∷ u) t r)) (λ t. refl)
-            (byte_goes σ here fs p b rest _ (begins ∙ begins_binary fs p b e f g h i j)) (binaries σ fs script (suc p) rest)
+            (byte_goes σ here fs p b rest _ (begins ∙ begins_binary fs p b e f g h i j)) (binaries σ fs (suc p) rest)
         go false false false false false false true e f g h i j k =
             reads_byte σ any (λ u t. Spells σ.rules l (35 ∷ u) t) (Spells σ.rules l) (behind_term fs) (behind_term fs) (λ t. t) p b rest _ _
             (λ u t r. subst (λ (c : ℕ). Spells σ.rules l (c ∷ u) t) (sym (eqb-true b 35 k)) r) (λ t. refl)

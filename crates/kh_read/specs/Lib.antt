@@ -1,5 +1,9 @@
+pub mod Bounds
 pub mod Exact
 pub mod Form
 pub mod Reading
+pub mod Skipped
 pub mod State
 pub mod Steps
+pub mod Text
+pub mod Views

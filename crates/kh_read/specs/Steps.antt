@@ -82,9 +82,13 @@ abbrev pub with_digit : Rules → List Frame → ℕ → Bool → ℕ → Step
 with_digit rules frames first negative magnitude =
     if fits_here rules frames negative magnitude then at (Digits first negative magnitude) frames else Stop (misfit frames first)
 
+-- the byte that an integer of a segment is
+abbrev pub byte_of : ℕ → ℕ
+byte_of magnitude = if nat_lt magnitude 256 then magnitude else 0
+
 abbrev pub integer_ended : List Frame → Bool → ℕ → Place
 integer_ended frames negative magnitude =
-    if takes_segment frames then AfterByte magnitude
+    if takes_segment frames then AfterByte (byte_of magnitude)
     else if takes_arity frames then AfterArity (signed negative magnitude) else After (tree.Int (signed negative magnitude))
 
 -- ---- the end of a name

@@ -1,5 +1,6 @@
-//! Laws of the texts of a script.
+//! Laws of texts and of how they are read.
 ghost use Rattle.std.specs.Prelude.{ℕ, List};
+ghost use Rattle.kh_text_defs.specs.declared.mode.Mode.{Mode};
 ghost use Rattle.kh_read.specs.Exact.{FormsAreRead, IsReading, LaterBytesChangeNothing, OneTermEach, reading};
 
 /// A text spells at most one term.
@@ -9,7 +10,7 @@ pub fn one_term()
 
 /// What reading byte by byte says of bytes holds of them.
 pub fn readings_are_exact()
-    ensures { (bytes : List ℕ) → IsReading bytes (reading bytes) }
+    ensures { (mode : Mode) (bytes : List ℕ) → IsReading mode bytes (reading mode bytes) }
 {}
 
 /// A form within all limits is read, where what comes behind it may follow.
