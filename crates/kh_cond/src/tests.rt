@@ -3,13 +3,13 @@ ghost use Rattle.std.specs.Prelude.{◌≡◌, length};
 
 use crate::{
     Comparison, Cond, CondError, Exact, Operator, Regex, cond_term, judge, matches_data,
-    pattern_term, prepare, push_cond_texts, push_watching_texts, read_cond, read_pattern,
-    read_watching, watching_term,
+    pattern_term, prepare, push_cond_texts, push_pattern_texts, push_watching_texts, read_cond,
+    read_pattern, read_watching, watching_term,
 };
 use kh_regexes::{Patterns, PlainPatterns, RegexPatterns};
 use kh_term::{
-    Atom, Bytes, Kind, Name, NoMemory, NodeView, Term, Terms, Text, Texts, atom, bin, compare, int,
-    list, list_with_tail, map_of_one, nil, pair, tuple,
+    Atom, Bytes, Kind, Name, NoMemory, NodeView, Origin, Term, Terms, Text, Texts, atom, bin,
+    closure, compare, int, list, list_with_tail, map_of_one, nil, pair, tuple,
 };
 use sqlite_items::{Boxed, Items};
 use std::alloc::Global;
@@ -52,9 +52,10 @@ fn view(alloc: Global, which: usize) -> Result<NodeView, NoMemory> {
 }
 
 // Whether each row holds of a missing node and of the four views.
-const ROWS: [&str; 18] = [
+const ROWS: [&str; 22] = [
     "-++++", "+----", "--+++", "-++++", "--+++", "-+---", "-----", "---++", "-++--", "---+-",
-    "----+", "-+++-", "---+-", "---+-", "+----", "+++++", "-----", "-++++",
+    "----+", "-+++-", "---+-", "---+-", "+----", "+++++", "-----", "-++++", "-++-+", "-++++",
+    "-++++", "-----",
 ];
 
 fn row(alloc: Global, at: usize) -> Result<Cond, NoMemory> {
@@ -76,6 +77,10 @@ fn row(alloc: Global, at: usize) -> Result<Cond, NoMemory> {
         14 => Ok(Cond::Not(Boxed::new(alloc, Cond::NodeExists(true))?)),
         15 => Ok(Cond::All(Items::new(alloc))),
         16 => Ok(Cond::Any(Items::new(alloc))),
+        18 => Ok(Cond::HasData(false)),
+        19 => Ok(Cond::ChildListVersion(Comparison::Is(1))),
+        20 => Ok(Cond::PayloadVersion(Comparison::By(Operator::Greater, -4))),
+        21 => Ok(Cond::PayloadVersion(Comparison::By(Operator::AtMost, i128::MIN))),
         _ => Ok(Cond::ChildListLength(Comparison::By(Operator::Less, i128::MAX))),
     }
 }
@@ -119,18 +124,27 @@ fn rows_are_judged(rt: HostRuntime) -> Result<(), Fail> {
     Ok(())
 }
 
+// A bare number, or one behind an operator.
+fn comparison(operator: Option<Operator>, number: i128) -> Comparison {
+    match operator {
+        Some(operator) => Comparison::By(operator, number),
+        None => Comparison::Is(number),
+    }
+}
+
 #[test]
 fn numbers_are_compared(rt: HostRuntime) -> Result<(), Fail> {
     for (operator, wanted) in [
-        (Operator::Equal, "-+-"),
-        (Operator::NotEqual, "+-+"),
-        (Operator::Less, "--+"),
-        (Operator::AtMost, "-++"),
-        (Operator::Greater, "+--"),
-        (Operator::AtLeast, "++-"),
+        (None, "-+-"),
+        (Some(Operator::Equal), "-+-"),
+        (Some(Operator::NotEqual), "+-+"),
+        (Some(Operator::Less), "--+"),
+        (Some(Operator::AtMost), "-++"),
+        (Some(Operator::Greater), "+--"),
+        (Some(Operator::AtLeast), "++-"),
     ] {
         for (at, holds) in wanted.as_bytes().iter().enumerate() {
-            let cond = Cond::PayloadVersion(Comparison::By(operator, at as i128 + 2));
+            let cond = Cond::PayloadVersion(comparison(operator, at as i128 + 2));
             let mut patterns = PlainPatterns::new(rt.alloc(), Vec::new(rt.alloc()))?;
             let found = judged(rt.alloc(), &cond, &mut patterns, 1)?;
             assert_eq!(rt; found, *holds == b'+', "{wanted} at {at}");
@@ -160,39 +174,70 @@ fn numbers(alloc: Global, all: &[i128]) -> Result<Terms, NoMemory> {
 }
 
 // The operands of the table of conditions.
-fn operand(alloc: Global, at: u8) -> Result<Term, NoMemory> {
-    match at {
-        0 => Ok(atom(word(alloc, "true")?)),
-        1 => Ok(int(1)),
-        2 => pair(alloc, atom(word(alloc, "gt")?), int(-3)),
-        3 => pair(alloc, atom(word(alloc, "in")?), int(1)),
-        4 => list_with_tail(alloc, numbers(alloc, &[97])?, int(98)),
-        5 => list(alloc, numbers(alloc, &[0x61, 0xe9, 0x20ac, 0x1f600])?),
-        6 => list(alloc, numbers(alloc, &[0xd800])?),
-        7 => bytes(alloc, b"\xff"),
-        8 => repeated(alloc, 4096),
-        9 => repeated(alloc, 4097),
+fn operand(alloc: Global, letter: u8) -> Result<Term, NoMemory> {
+    match letter {
+        b't' => Ok(atom(word(alloc, "true")?)),
+        b'u' => Ok(atom(word(alloc, "undefined")?)),
+        b'1' => Ok(int(1)),
+        b'g' => pair(alloc, atom(word(alloc, "gt")?), int(-3)),
+        b'a' => pair(alloc, atom(word(alloc, "gt")?), atom(word(alloc, "a")?)),
+        b'i' => pair(alloc, atom(word(alloc, "in")?), int(1)),
+        b'|' => list_with_tail(alloc, numbers(alloc, &[97])?, int(98)),
+        b'p' => list(alloc, numbers(alloc, &[0x61, 0xe9, 0x20ac, 0x1f600])?),
+        b's' => list(alloc, numbers(alloc, &[0xd800])?),
+        b'x' => bytes(alloc, b"\xff"),
+        b'm' => repeated(alloc, 4096),
+        b'M' => repeated(alloc, 4097),
         _ => Ok(nil()),
     }
 }
 
-const CONDITIONS: [(&str, u8, bool); 15] = [
-    ("if_node_exists", 0, true),
-    ("if_node_exists", 1, false),
-    ("if_payload_version", 1, true),
-    ("if_payload_version", 2, true),
-    ("if_child_list_length", 3, false),
-    ("if_all", 4, false),
-    ("if_any", 10, true),
-    ("if_name_matches", 4, false),
-    ("if_name_matches", 5, true),
-    ("if_name_matches", 6, false),
-    ("if_name_matches", 7, false),
-    ("if_name_matches", 8, true),
-    ("if_name_matches", 9, false),
-    ("if_name_matches", 10, true),
-    ("if_path_matches", 5, false),
+// The words and operands of tuples, and whether they are conditions.
+const CONDITIONS: [(&str, &str, bool); 33] = [
+    ("if_node_exists", "t", true),
+    ("if_node_exists", "1", false),
+    ("if_node_exists", "", false),
+    ("if_node_exists", "tu", false),
+    ("if_payload_version", "1", true),
+    ("if_payload_version", "g", true),
+    ("if_payload_version", "a", false),
+    ("if_child_list_length", "i", false),
+    ("if_all", "|", false),
+    ("if_any", "n", true),
+    ("if_any", "nu", false),
+    ("if_name_matches", "|", false),
+    ("if_name_matches", "p", true),
+    ("if_name_matches", "s", false),
+    ("if_name_matches", "x", false),
+    ("if_name_matches", "m", true),
+    ("if_name_matches", "M", false),
+    ("if_name_matches", "n", true),
+    ("if_name_matches", "", false),
+    ("if_name_matches", "pu", true),
+    ("if_name_matches", "p1", false),
+    ("if_name_matches", "puu", false),
+    ("if_name_matches", "xu", false),
+    ("if_path_matches", "p", false),
+    ("if_path_matches", "pu", false),
+    ("if_data_matches", "i", true),
+    ("if_data_matches", "inu", true),
+    ("if_data_matches", "iu", false),
+    ("if_data_matches", "in", false),
+    ("if_data_matches", "in1", false),
+    ("if_data_matches", "i1u", false),
+    ("if_data_matches", "inuu", false),
+    ("if_has_sproc", "tu", false),
 ];
+
+// The tuple of a word and operands.
+fn form(alloc: Global, name: &str, operands: &str) -> Result<Term, NoMemory> {
+    let mut parts = Terms::new(alloc);
+    parts.push(atom(word(alloc, name)?))?;
+    for letter in operands.as_bytes() {
+        parts.push(operand(alloc, *letter)?)?;
+    }
+    Ok(tuple(parts))
+}
 
 // A term is read where it is a condition, and written in a short spelling that is read as the same.
 fn is_read(alloc: Global, term: &Term) -> Result<bool, Fail> {
@@ -210,13 +255,9 @@ fn is_read(alloc: Global, term: &Term) -> Result<bool, Fail> {
 
 #[test]
 fn conditions_are_read(rt: HostRuntime) -> Result<(), Fail> {
-    for (name, at, wanted) in CONDITIONS {
-        let term = pair(
-            rt.alloc(),
-            atom(word(rt.alloc(), name)?),
-            operand(rt.alloc(), at)?,
-        )?;
-        assert_eq!(rt; is_read(rt.alloc(), &term)?, wanted, "{name} {at}");
+    for (name, operands, wanted) in CONDITIONS {
+        let term = form(rt.alloc(), name, operands)?;
+        assert_eq!(rt; is_read(rt.alloc(), &term)?, wanted, "{name} {operands}");
     }
     for (name, wanted) in [("a", true), (".", false), ("^", false), ("", false)] {
         let term = atom(word(rt.alloc(), name)?);
@@ -225,6 +266,34 @@ fn conditions_are_read(rt: HostRuntime) -> Result<(), Fail> {
     for (count, wanted) in [(0, false), (255, true), (256, false)] {
         let term = repeated(rt.alloc(), count)?;
         assert_eq!(rt; is_read(rt.alloc(), &term)?, wanted, "{count}");
+    }
+    Ok(())
+}
+
+// The list of a code point, so often, and letters `a` behind it.
+fn points(alloc: Global, point: i128, count: usize, all: usize) -> Result<Term, NoMemory> {
+    let mut terms = Terms::new(alloc);
+    for at in 0..all {
+        terms.push(int(if at < count { point } else { 97 }))?;
+    }
+    list(alloc, terms)
+}
+
+#[test]
+fn code_points_are_counted_in_bytes(rt: HostRuntime) -> Result<(), Fail> {
+    for (point, count, all, wanted) in [
+        (0x61, 0, 4096, true),
+        (0x61, 0, 4097, false),
+        (0xe9, 2048, 2048, true),
+        (0xe9, 2048, 2049, false),
+        (0x20ac, 1365, 1366, true),
+        (0x20ac, 1365, 1367, false),
+        (0x1f600, 1024, 1024, true),
+        (0x1f600, 1024, 1025, false),
+    ] {
+        let text = points(rt.alloc(), point, count, all)?;
+        let term = pair(rt.alloc(), atom(word(rt.alloc(), "if_name_matches")?), text)?;
+        assert_eq!(rt; is_read(rt.alloc(), &term)?, wanted, "{point} {all}");
     }
     Ok(())
 }
@@ -272,9 +341,92 @@ fn patterns_are_read(rt: HostRuntime) -> Result<(), Fail> {
         let term = components(rt.alloc(), count, wrong)?;
         assert_eq!(rt; number_of(rt.alloc(), &term)?, number, "{count} {wrong}");
     }
-    assert_eq!(rt; number_of(rt.alloc(), &int(1))?, 0);
-    let improper = list_with_tail(rt.alloc(), numbers(rt.alloc(), &[97])?, int(98))?;
-    assert_eq!(rt; number_of(rt.alloc(), &improper)?, 0);
+    let rows: [(char, &[i128], usize); 4] = [
+        ('i', &[0], 0),
+        ('t', &[0], 0),
+        ('l', &[97, 98], 1),
+        ('l', &[0, 1, 2], 2),
+    ];
+    for (at, (kind, parts, number)) in rows.iter().enumerate() {
+        let term = term(rt.alloc(), *kind, parts)?;
+        assert_eq!(rt; number_of(rt.alloc(), &term)?, *number, "row {at}");
+    }
+    Ok(())
+}
+
+fn path_regex(alloc: Global) -> Result<Term, NoMemory> {
+    pair(
+        alloc,
+        atom(word(alloc, "if_path_matches")?),
+        atom(word(alloc, "any")?),
+    )
+}
+
+// A combination of the last term, perhaps behind another.
+fn combined(alloc: Global, name: &str, first: Option<Term>, last: Term) -> Result<Term, NoMemory> {
+    let mut parts = Terms::new(alloc);
+    if let Some(first) = first {
+        parts.push(first)?;
+    }
+    parts.push(last)?;
+    pair(alloc, atom(word(alloc, name)?), list(alloc, parts)?)
+}
+
+// The component `{if_path_matches,any}`, a name, or a term round the one so far.
+fn wrapped(alloc: Global, letter: u8, inner: Term) -> Result<Term, NoMemory> {
+    match letter {
+        b'p' => path_regex(alloc),
+        b'o' => Ok(atom(word(alloc, "oak")?)),
+        b'n' => pair(alloc, atom(word(alloc, "if_not")?), inner),
+        b'y' => combined(alloc, "if_any", None, inner),
+        b'l' => combined(alloc, "if_all", None, inner),
+        b'2' => combined(alloc, "if_all", Some(atom(word(alloc, "oak")?)), inner),
+        _ => combined(alloc, "if_all", Some(path_regex(alloc)?), inner),
+    }
+}
+
+// Whether a term is a component, which is written as it was and has no texts.
+fn is_component(alloc: Global, component: Term) -> Result<bool, Fail> {
+    let mut components = Terms::new(alloc);
+    components.push(component)?;
+    let term = list(alloc, components)?;
+    match read_pattern(alloc, &term) {
+        Ok(pattern) => {
+            let mut texts = Texts::new(alloc);
+            push_pattern_texts(alloc, &pattern, &mut texts)?;
+            let again = pattern_term(alloc, &pattern)?;
+            Ok(texts.len() == 0 && compare(&again, &term).is_eq())
+        }
+        Err(CondError::BadCondition(1)) => Ok(false),
+        Err(_) => Err(NoMemory.into()),
+    }
+}
+
+// Components from the inside out: `pn` is `{if_not,{if_path_matches,any}}`.
+#[test]
+fn path_regexes_stand_first(rt: HostRuntime) -> Result<(), Fail> {
+    for (letters, wanted) in [
+        ("p", true),
+        ("pl", true),
+        ("o+", true),
+        ("on+", true),
+        ("pn", false),
+        ("py", false),
+        ("p2", false),
+        ("p+", false),
+        ("pll", false),
+        ("pl2", false),
+        ("pl+", false),
+        ("pn+", false),
+        ("ply", false),
+        ("pln", false),
+    ] {
+        let mut term = nil();
+        for letter in letters.as_bytes() {
+            term = wrapped(rt.alloc(), *letter, term)?;
+        }
+        assert_eq!(rt; is_component(rt.alloc(), term)?, wanted, "{letters}");
+    }
     Ok(())
 }
 
@@ -288,10 +440,26 @@ fn term(alloc: Global, kind: char, parts: &[i128]) -> Result<Term, NoMemory> {
         't' => Ok(tuple(terms)),
         'l' => list(alloc, terms),
         'i' => list_with_tail(alloc, terms, int(5)),
+        'c' => closure_of(alloc, terms),
         'k' => map_of_one(alloc, atom(word(alloc, "_")?), tuple(terms)),
         'v' => map_of_one(alloc, int(1), tuple(terms)),
         _ => list_with_tail(alloc, terms, atom(word(alloc, "_")?)),
     }
+}
+
+// The closure of a function of up to two arguments that captured these values.
+fn closure_of(alloc: Global, captured: Terms) -> Result<Term, NoMemory> {
+    if captured.len() > 2 {
+        return Err(NoMemory);
+    }
+    let module = word(alloc, "m")?;
+    let name = word(alloc, "f")?;
+    let origin = Origin {
+        module,
+        name,
+        arity: 2,
+    };
+    Ok(closure(origin, captured))
 }
 
 fn part_term(alloc: Global, part: i128) -> Result<Term, NoMemory> {
@@ -303,7 +471,7 @@ fn part_term(alloc: Global, part: i128) -> Result<Term, NoMemory> {
 
 #[test]
 fn data_match(rt: HostRuntime) -> Result<(), Fail> {
-    let rows: [(char, &[i128], char, &[i128], bool); 10] = [
+    let rows: [(char, &[i128], char, &[i128], bool); 14] = [
         ('t', &[0, 7], 't', &[1, 7], true),
         ('t', &[0, 7], 't', &[1, 8], false),
         ('v', &[0], 'v', &[3], true),
@@ -314,6 +482,10 @@ fn data_match(rt: HostRuntime) -> Result<(), Fail> {
         ('a', &[1], 'i', &[1], true),
         ('a', &[1], 'l', &[], false),
         ('l', &[1, 2], 'l', &[1], false),
+        ('c', &[1], 'c', &[1], true),
+        ('c', &[1], 'c', &[2], false),
+        ('c', &[0], 'c', &[1], false),
+        ('c', &[1], 't', &[1], false),
     ];
     for (at, (kind, pattern, other, datum, wanted)) in rows.iter().enumerate() {
         let pattern = term(rt.alloc(), *kind, pattern)?;
