@@ -52,11 +52,8 @@ fn view(alloc: Global, which: usize) -> Result<NodeView, NoMemory> {
 }
 
 // Whether each row holds of a missing node and of the four views.
-const ROWS: [&str; 22] = [
-    "-++++", "+----", "--+++", "-++++", "--+++", "-+---", "-----", "---++", "-++--", "---+-",
-    "----+", "-+++-", "---+-", "---+-", "+----", "+++++", "-----", "-++++", "-++-+", "-++++",
-    "-++++", "-----",
-];
+const ROWS: &str = "-++++ +---- --+++ -++++ --+++ -+--- ----- ---++ -++-- ---+- ----+ \
+    -+++- ---+- ---+- +---- +++++ ----- -++++ -++-+ -++++ -++++ -----";
 
 fn row(alloc: Global, at: usize) -> Result<Cond, NoMemory> {
     match at {
@@ -108,15 +105,27 @@ fn judged<P: Patterns>(
     Ok(judge(cond, Some(&view), patterns)?)
 }
 
+// Whether a row is judged so on a missing node and on the four views.
+fn is_judged(alloc: Global, at: usize, wanted: &[u8]) -> Result<bool, Fail> {
+    let cond = row(alloc, at)?;
+    for (which, holds) in wanted.iter().enumerate() {
+        let mut patterns = RegexPatterns::new(alloc)?;
+        if judged(alloc, &cond, &mut patterns, which)? != (*holds == b'+') {
+            return Ok(false);
+        }
+    }
+    Ok(true)
+}
+
 #[test]
 fn rows_are_judged(rt: HostRuntime) -> Result<(), Fail> {
-    for (at, wanted) in ROWS.iter().enumerate() {
-        let cond = row(rt.alloc(), at)?;
-        for (which, holds) in wanted.as_bytes().iter().enumerate() {
-            let mut patterns = RegexPatterns::new(rt.alloc())?;
-            let found = judged(rt.alloc(), &cond, &mut patterns, which)?;
-            assert_eq!(rt; found, *holds == b'+', "row {at}, view {which}");
-        }
+    let mut at = 0;
+    for wanted in ROWS.split(' ') {
+        assert!(rt;
+            at < 100 && is_judged(rt.alloc(), at, wanted.as_bytes())?,
+            "row {at}"
+        );
+        at += 1;
     }
     let mut patterns = PlainPatterns::new(rt.alloc(), Vec::new(rt.alloc()))?;
     let in_name = name_matches(rt.alloc(), "ak")?;
@@ -192,51 +201,38 @@ fn operand(alloc: Global, letter: u8) -> Result<Term, NoMemory> {
     }
 }
 
-// The words and operands of tuples, and whether they are conditions.
-const CONDITIONS: [(&str, &str, bool); 33] = [
-    ("if_node_exists", "t", true),
-    ("if_node_exists", "1", false),
-    ("if_node_exists", "", false),
-    ("if_node_exists", "tu", false),
-    ("if_payload_version", "1", true),
-    ("if_payload_version", "g", true),
-    ("if_payload_version", "a", false),
-    ("if_child_list_length", "i", false),
-    ("if_all", "|", false),
-    ("if_any", "n", true),
-    ("if_any", "nu", false),
-    ("if_name_matches", "|", false),
-    ("if_name_matches", "p", true),
-    ("if_name_matches", "s", false),
-    ("if_name_matches", "x", false),
-    ("if_name_matches", "m", true),
-    ("if_name_matches", "M", false),
-    ("if_name_matches", "n", true),
-    ("if_name_matches", "", false),
-    ("if_name_matches", "pu", true),
-    ("if_name_matches", "p1", false),
-    ("if_name_matches", "puu", false),
-    ("if_name_matches", "xu", false),
-    ("if_path_matches", "p", false),
-    ("if_path_matches", "pu", false),
-    ("if_data_matches", "i", true),
-    ("if_data_matches", "inu", true),
-    ("if_data_matches", "iu", false),
-    ("if_data_matches", "in", false),
-    ("if_data_matches", "in1", false),
-    ("if_data_matches", "i1u", false),
-    ("if_data_matches", "inuu", false),
-    ("if_has_sproc", "tu", false),
+// The words of tuples with their operands: `+` before those that are conditions.
+const CONDITIONS: [(&str, &str); 9] = [
+    ("if_node_exists", "+t -1 - -tu"),
+    ("if_payload_version", "+1 +g -a"),
+    ("if_child_list_length", "-i"),
+    ("if_all", "-|"),
+    ("if_any", "+n -nu"),
+    ("if_name_matches", "-| +p -s -x +m -M +n - +pu -p1 -puu -xu"),
+    ("if_path_matches", "-p -pu"),
+    ("if_data_matches", "+i +inu -iu -in -in1 -i1u -inuu"),
+    ("if_has_sproc", "-tu"),
 ];
 
 // The tuple of a word and operands.
-fn form(alloc: Global, name: &str, operands: &str) -> Result<Term, NoMemory> {
+fn form(alloc: Global, name: &str, operands: &[u8]) -> Result<Term, NoMemory> {
     let mut parts = Terms::new(alloc);
     parts.push(atom(word(alloc, name)?))?;
-    for letter in operands.as_bytes() {
+    for letter in operands {
         parts.push(operand(alloc, *letter)?)?;
     }
     Ok(tuple(parts))
+}
+
+// Whether a tuple is read as the sign says.
+fn is_row(alloc: Global, name: &str, row: &[u8]) -> Result<bool, Fail> {
+    match row {
+        [sign, operands @ ..] => {
+            let term = form(alloc, name, operands)?;
+            Ok(is_read(alloc, &term)? == (*sign == b'+'))
+        }
+        [] => Ok(false),
+    }
 }
 
 // A term is read where it is a condition, and written in a short spelling that is read as the same.
@@ -255,9 +251,10 @@ fn is_read(alloc: Global, term: &Term) -> Result<bool, Fail> {
 
 #[test]
 fn conditions_are_read(rt: HostRuntime) -> Result<(), Fail> {
-    for (name, operands, wanted) in CONDITIONS {
-        let term = form(rt.alloc(), name, operands)?;
-        assert_eq!(rt; is_read(rt.alloc(), &term)?, wanted, "{name} {operands}");
+    for (name, rows) in CONDITIONS {
+        for row in rows.split(' ') {
+            assert!(rt; is_row(rt.alloc(), name, row.as_bytes())?, "{name} {row}");
+        }
     }
     for (name, wanted) in [("a", true), (".", false), ("^", false), ("", false)] {
         let term = atom(word(rt.alloc(), name)?);
@@ -281,19 +278,17 @@ fn points(alloc: Global, point: i128, count: usize, all: usize) -> Result<Term, 
 
 #[test]
 fn code_points_are_counted_in_bytes(rt: HostRuntime) -> Result<(), Fail> {
-    for (point, count, all, wanted) in [
-        (0x61, 0, 4096, true),
-        (0x61, 0, 4097, false),
-        (0xe9, 2048, 2048, true),
-        (0xe9, 2048, 2049, false),
-        (0x20ac, 1365, 1366, true),
-        (0x20ac, 1365, 1367, false),
-        (0x1f600, 1024, 1024, true),
-        (0x1f600, 1024, 1025, false),
+    for (point, count, all) in [
+        (0x61, 0, 4096),
+        (0xe9, 2048, 2048),
+        (0x20ac, 1365, 1366),
+        (0x1f600, 1024, 1024),
     ] {
-        let text = points(rt.alloc(), point, count, all)?;
-        let term = pair(rt.alloc(), atom(word(rt.alloc(), "if_name_matches")?), text)?;
-        assert_eq!(rt; is_read(rt.alloc(), &term)?, wanted, "{point} {all}");
+        for more in 0..2 {
+            let text = points(rt.alloc(), point, count, all + more)?;
+            let term = pair(rt.alloc(), atom(word(rt.alloc(), "if_name_matches")?), text)?;
+            assert_eq!(rt; is_read(rt.alloc(), &term)?, more == 0, "{point} {more}");
+        }
     }
     Ok(())
 }
@@ -402,30 +397,25 @@ fn is_component(alloc: Global, component: Term) -> Result<bool, Fail> {
     }
 }
 
-// Components from the inside out: `pn` is `{if_not,{if_path_matches,any}}`.
+// Whether a component that is built from the inside out is one as the sign says.
+fn is_placed(alloc: Global, row: &[u8]) -> Result<bool, Fail> {
+    match row {
+        [sign, letters @ ..] => {
+            let mut term = nil();
+            for letter in letters {
+                term = wrapped(alloc, *letter, term)?;
+            }
+            Ok(is_component(alloc, term)? == (*sign == b'+'))
+        }
+        [] => Ok(false),
+    }
+}
+
+// `-pn` is `{if_not,{if_path_matches,any}}`, which is none.
 #[test]
 fn path_regexes_stand_first(rt: HostRuntime) -> Result<(), Fail> {
-    for (letters, wanted) in [
-        ("p", true),
-        ("pl", true),
-        ("o+", true),
-        ("on+", true),
-        ("pn", false),
-        ("py", false),
-        ("p2", false),
-        ("p+", false),
-        ("pll", false),
-        ("pl2", false),
-        ("pl+", false),
-        ("pn+", false),
-        ("ply", false),
-        ("pln", false),
-    ] {
-        let mut term = nil();
-        for letter in letters.as_bytes() {
-            term = wrapped(rt.alloc(), *letter, term)?;
-        }
-        assert_eq!(rt; is_component(rt.alloc(), term)?, wanted, "{letters}");
+    for row in "+p +pl +o1 +on1 -pn -py -p2 -p1 -pll -pl2 -pl1 -pn1 -ply -pln".split(' ') {
+        assert!(rt; is_placed(rt.alloc(), row.as_bytes())?, "{row}");
     }
     Ok(())
 }
