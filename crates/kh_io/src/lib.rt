@@ -3,6 +3,7 @@
 
 mod contents;
 mod failed;
+mod fault;
 mod files;
 mod host;
 mod journal;
@@ -14,6 +15,7 @@ mod room;
 mod sound;
 
 pub use failed::{Failed, NoMemory};
+pub use fault::{Fault, hold_streams, lock_folder};
 pub use files::{FileBytes, Files};
 pub use host::{Disk, Host};
 pub use memory::MemoryHost;

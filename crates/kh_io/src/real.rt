@@ -2,7 +2,7 @@
 ghost use Rattle.std.specs.Prelude.{◌≡◌, ◌<◌, ◌≤◌, length, None, Ok, IfOk, OnOk, OnErr};
 ghost use Rattle.kh_io.specs.Told.{Rose};
 
-use crate::{Disk, Failed, Host};
+use crate::{Disk, Failed, Fault, Host};
 use std::fs::{self, OpenFile, OpenOptions};
 use std::io::{self, ErrorKind, Read, Seek, SeekFrom, Write};
 use std::marker::Model;
@@ -26,6 +26,10 @@ pub struct RealHost<R: Runtime> {
     disk_faults: u64,
     read_faults: u64,
     write_faults: u64,
+    /// Whether each call of the disk fails.
+    is_shut: bool,
+    /// What failed first.
+    fault: Option<Fault>,
 }
 
 impl<R: Runtime> Model for RealHost<R> {
@@ -53,6 +57,30 @@ impl<R: Runtime> RealHost<R> {
             disk_faults: 0,
             read_faults: 0,
             write_faults: 0,
+            is_shut: false,
+            fault: None,
+        }
+    }
+
+    /// From now on each call of the disk fails, for this reason, and touches nothing.
+    pub fn shut(&mut self, reason: Fault)
+        ensures { self.new ≡ self.old }
+    {
+        self.is_shut = true;
+        self.note(reason);
+    }
+
+    /// What failed first, where something did.
+    pub fn fault(&self) -> Option<Fault> {
+        self.fault
+    }
+
+    // Keeps what failed, where nothing failed before.
+    fn note(&mut self, fault: Fault)
+        ensures { self.new ≡ self.old }
+    {
+        if self.fault.is_none() {
+            self.fault = Some(fault);
         }
     }
 
@@ -61,6 +89,9 @@ impl<R: Runtime> RealHost<R> {
         requires { file < 4 }
         ensures { self.new ≡ self.old }
     {
+        if self.is_shut {
+            return Err(io::Error::from(ErrorKind::ResourceBusy));
+        }
         let kept = match file {
             0 => self.s0.take(),
             1 => self.l0.take(),
@@ -85,8 +116,8 @@ impl<R: Runtime> RealHost<R> {
         }
     }
 
-    // The answer of a call of the disk, with a fault where it failed.
-    fn answer<T>(&mut self, answer: io::Result<T>) -> Result<T, Failed>
+    // The answer of a call of the disk on a file, with a fault where it failed.
+    fn answer<T>(&mut self, file: u8, call: &'static str, answer: io::Result<T>) -> Result<T, Failed>
         ensures ok { OnOk result (self.new ≡ self.old) }
         ensures err { OnErr result (Rose self.old.disk self.new.disk) }
         ensures stands { self.old.disk ≤ self.new.disk }
@@ -96,7 +127,8 @@ impl<R: Runtime> RealHost<R> {
     {
         match answer {
             Ok(value) => Ok(value),
-            Err(_) => {
+            Err(error) => {
+                self.note(Fault::of(name(file), call, error));
                 self.disk_faults = self.disk_faults.saturating_add(1);
                 Err(Failed)
             }
@@ -237,27 +269,27 @@ impl<R: Runtime> Disk for RealHost<R> {
 
     fn len(&mut self, file: u8) -> Result<u64, Failed> {
         let answer = self.file_len(file);
-        self.answer(answer)
+        self.answer(file, "length", answer)
     }
 
     fn read_at(&mut self, file: u8, at: u64, into: &mut [u8]) -> Result<usize, Failed> {
         let answer = self.read_file(file, at, into);
-        self.answer(answer)
+        self.answer(file, "read", answer)
     }
 
     fn write_at(&mut self, file: u8, at: u64, bytes: &[u8]) -> Result<(), Failed> {
         let answer = self.write_file(file, at, bytes);
-        self.answer(answer)
+        self.answer(file, "write", answer)
     }
 
     fn cut(&mut self, file: u8, len: u64) -> Result<(), Failed> {
         let answer = self.cut_file(file, len);
-        self.answer(answer)
+        self.answer(file, "cut", answer)
     }
 
     fn sync(&mut self, file: u8) -> Result<(), Failed> {
         let answer = self.sync_file(file);
-        self.answer(answer)
+        self.answer(file, "sync", answer)
     }
 }
 
@@ -265,7 +297,8 @@ impl<R: Runtime> Host for RealHost<R> {
     fn take(&mut self, into: &mut [u8]) -> Result<usize, Failed> {
         match read_some(&mut self.input, into) {
             Ok(n) => Ok(n),
-            Err(_) => {
+            Err(error) => {
+                self.note(Fault::of("standard input", "read", error));
                 self.read_faults = self.read_faults.saturating_add(1);
                 Err(Failed)
             }
@@ -275,12 +308,13 @@ impl<R: Runtime> Host for RealHost<R> {
     // The writer of a runtime keeps nothing back, so what it took has reached the stream.
     fn give(&mut self, bytes: &[u8]) -> Result<usize, Failed> {
         let taken = write_some(&mut io::writer(&self.rt), bytes);
-        match taken {
-            Ok(n) if n > 0 || bytes.is_empty() => Ok(n),
-            _ => {
-                self.write_faults = self.write_faults.saturating_add(1);
-                Err(Failed)
-            }
-        }
+        let error = match taken {
+            Ok(n) if n > 0 || bytes.is_empty() => return Ok(n),
+            Ok(_) => io::Error::from(ErrorKind::WriteZero),
+            Err(error) => error,
+        };
+        self.note(Fault::of("standard output", "write", error));
+        self.write_faults = self.write_faults.saturating_add(1);
+        Err(Failed)
     }
 }

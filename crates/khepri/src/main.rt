@@ -15,13 +15,14 @@ mod sound;
 mod tests;
 mod top;
 
-use kh_io::RealHost;
+use kh_io::{Fault, RealHost, hold_streams, lock_folder};
 use std::process::ExitCode;
 use std::rt::{Env, Runtime};
 use std::{env, io};
-use top::khepri;
+use top::{are_right, khepri};
 
-const USAGE: &str = "usage: khepri run | khepri load COUNT";
+const USAGE: &str = "usage: khepri run";
+const DAMAGED: &str = "khepri: khepri.l0 is damaged: put the four files of a copy in place of these";
 
 /// The words that the program was called with, without its own name, or the status that says why there are none.
 fn words<R: Env + AllocGlobal>(rt: &R) -> Result<Vec<String>, u8> {
@@ -35,20 +36,44 @@ fn words<R: Env + AllocGlobal>(rt: &R) -> Result<Vec<String>, u8> {
 }
 
 fn main(rt: HostRuntime) -> ExitCode {
-    let status = match words(&rt) {
-        Ok(words) => answer(&rt, words.as_slice()),
-        Err(status) => status,
+    // (kept to the end)
+    let streams = hold_streams(&rt);
+    let closed = streams.as_ref().err().copied();
+    let (status, fault) = match words(&rt) {
+        Ok(words) => answer(&rt, words.as_slice(), closed),
+        Err(status) => (status, None),
     };
-    if status == 7 {
-        let _ = rt.eprintln(USAGE);
-    }
+    tell(&rt, status, fault);
     ExitCode::from(status)
 }
 
-/// Answers the script on the standard streams.
-fn answer(rt: &HostRuntime, words: &[String]) -> u8 {
-    match rt.clone() {
-        Ok(own) => khepri(rt.alloc(), words, &mut RealHost::new(own)),
-        Err(_) => 6,
+/// Answers the script on the standard streams, over the files of the working folder while it is locked, and returns the status with the
+/// first call that failed. Where there is a reason not to open files, or the folder can't be locked, the disk fails.
+fn answer(rt: &HostRuntime, words: &[String], closed: Option<Fault>) -> (u8, Option<Fault>) {
+    let Ok(own) = rt.clone() else {
+        return (6, None);
+    };
+    let mut host = RealHost::new(own);
+    // (kept to the end)
+    let folder = match closed {
+        Some(fault) => Err(fault),
+        None if are_right(words) => lock_folder(rt).map(Some),
+        None => Ok(None),
+    };
+    if let Err(fault) = &folder {
+        host.shut(*fault);
     }
+    let status = khepri(rt.alloc(), words, &mut host);
+    (status, host.fault())
+}
+
+/// Says on standard error why a run ended early.
+fn tell(rt: &HostRuntime, status: u8, fault: Option<Fault>) {
+    let _ = match (status, fault) {
+        (1, _) => rt.eprintln(DAMAGED),
+        (3..=5, Some(fault)) => eprintln!(rt; "khepri: {fault}"),
+        (6, _) => rt.eprintln("khepri: memory ran out"),
+        (7, _) => rt.eprintln(USAGE),
+        _ => Ok(()),
+    };
 }

@@ -48,8 +48,8 @@ pub fn khepri<H: Host>(alloc: Global, words: &[String], host: &mut H) -> u8
     }
 }
 
-// Whether the words are the one word `run`.
-fn are_right(words: &[String]) -> bool
+/// Whether the words are the one word `run`.
+pub fn are_right(words: &[String]) -> bool
     ensures { result ≡ are_right words.now }
 {
     match words {
