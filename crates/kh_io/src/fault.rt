@@ -10,7 +10,11 @@ pub enum Fault {
     #[error("another process has the store open")]
     InUse,
     #[error("{name}: {call}: {error}")]
-    Call { name: &'static str, call: &'static str, error: io::Error },
+    Call {
+        name: &'static str,
+        call: &'static str,
+        error: io::Error,
+    },
 }
 
 impl Fault {

@@ -117,7 +117,12 @@ impl<R: Runtime> RealHost<R> {
     }
 
     // The answer of a call of the disk on a file, with a fault where it failed.
-    fn answer<T>(&mut self, file: u8, call: &'static str, answer: io::Result<T>) -> Result<T, Failed>
+    fn answer<T>(
+        &mut self,
+        file: u8,
+        call: &'static str,
+        answer: io::Result<T>,
+    ) -> Result<T, Failed>
         ensures ok { OnOk result (self.new ≡ self.old) }
         ensures err { OnErr result (Rose self.old.disk self.new.disk) }
         ensures stands { self.old.disk ≤ self.new.disk }

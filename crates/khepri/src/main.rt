@@ -22,7 +22,9 @@ use std::{env, io};
 use top::{are_right, khepri};
 
 const USAGE: &str = "usage: khepri run";
-const DAMAGED: &str = "khepri: khepri.l0 is damaged: put the four files of a copy in place of these";
+
+const DAMAGED: &str =
+    "khepri: khepri.l0 is damaged: put the four files of a copy in place of these";
 
 /// The words that the program was called with, without its own name, or the status that says why there are none.
 fn words<R: Env + AllocGlobal>(rt: &R) -> Result<Vec<String>, u8> {
