@@ -184,7 +184,7 @@ def damage(program):
 
 
 def value(program, where, count):
-    """How many of the puts of `script_of` the store holds, asked with nothing left out in between."""
+    """How many of the first so many puts of `script_of` the store holds, none of them left out in between."""
     ended = run(program, b"".join(b"{get,[n%d]}.\n" % i for i in range(count)), where)
     expect("the store opened again", ended.returncode, 0)
     there = [line.startswith(b"{ok,") for line in ended.stdout.splitlines()]
@@ -207,6 +207,16 @@ def small_disk(options):
             subprocess.run(["umount", where], check=True)
 
 
+def fill(path, free):
+    """Takes all that is left of a disk but for so many bytes."""
+    with open(path, "wb", buffering=0) as filler:
+        taken = 0
+        with contextlib.suppress(OSError):
+            while True:
+                taken += filler.write(bytes(4096))
+        filler.truncate(max(0, taken - free))
+
+
 def full_disk(program):
     """On a disk that is full nothing is lost that was answered, whichever write it is that finds no room."""
     count, answered = 1000, set()
@@ -216,23 +226,18 @@ def full_disk(program):
             ended = run(program, PUT, where)
             expect(f"a disk for {inodes - 1} files", (ended.returncode, ended.stdout), (5, b""))
             expect_line(ended.stderr, rf"khepri: khepri\.[ls][01]: \w+: No space left on device ?{SYSTEM}")
-    for pages in range(6):
-        # Where a page ends decides which byte of which write is the last; so many bytes are in front of the first.
-        for skew in range(0, 40, 3):
+    # Where a page ends decides which byte of which write is the last; a first put of another length moves all behind it.
+    for pages in range(3):
+        for skew in range(1, 41, 3):
             with small_disk("size=64k") as where:
-                expect("the first puts", run(program, b"{put,[%s],1}.\n" % (b"f" * (skew + 1)) if skew else b"", where).returncode, 0)
-                with open(os.path.join(where, "filler"), "wb") as filler:
-                    with contextlib.suppress(OSError):
-                        while True:
-                            os.write(filler.fileno(), bytes(4096))
-                    os.ftruncate(filler.fileno(), max(0, filler.tell() - 4096 * pages))
+                expect("the first put", run(program, b"{put,[%s],1}.\n" % (b"f" * skew), where).returncode, 0)
+                fill(os.path.join(where, "filler"), 4096 * pages)
                 ended = run(program, script_of(0, count), where)
                 done = ended.stdout.count(b"ok.\n")
-                if done < count:
-                    expect(f"{pages} pages free", (ended.returncode, ended.stdout), (5, b"ok.\n" * done))
-                    expect_line(ended.stderr, rf"khepri: khepri\.l0: \w+: No space left on device ?{SYSTEM}")
+                expect(f"{pages} pages free", (ended.returncode, ended.stdout), (5, b"ok.\n" * done))
+                expect_line(ended.stderr, rf"khepri: khepri\.l0: \w+: No space left on device ?{SYSTEM}")
                 os.remove(os.path.join(where, "filler"))
-                held = value(program, where, count)
+                held = value(program, where, done + 2)
                 if held not in (done, done + 1):
                     raise Fault(f"{pages} pages free: {done} puts were answered, and {held} are there")
                 answered.add(done)
@@ -257,7 +262,7 @@ def kills(program, times=200):
                 child.stdin.close()
             child.stdout.close()
             done = at + output.count(b"\n")
-            held = value(program, where, done + 401)
+            held = value(program, where, done + 2)
             if held not in (done, done + 1):
                 raise Fault(f"{done} puts were answered before a kill, and {held} are there")
             at = held
