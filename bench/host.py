@@ -54,7 +54,7 @@ def run(program, script, where, before=None, words=("run",), stdin=None):
     """Runs the program; `before` is done in the new process first."""
     given = {"stdin": stdin} if stdin is not None else {"input": script}
     return subprocess.run([program, *words], cwd=where, stdout=subprocess.PIPE, stderr=subprocess.PIPE, preexec_fn=before,
-                          timeout=100, check=False, **given)
+                          timeout=600, check=False, **given)
 
 
 def files_of(where):
