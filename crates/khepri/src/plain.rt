@@ -7,7 +7,7 @@ ghost use Rattle.khepri.specs.Plain.{TextAndStatus};
 use crate::line::{Line, read_line};
 use kh_print::print_line;
 use kh_read::Form;
-use kh_store::Tree;
+use kh_store::{Applied, Tree};
 use kh_term::NoMemory;
 use std::alloc::Global;
 
@@ -39,10 +39,12 @@ fn add_reply(alloc: Global, text: &mut Vec<u8>, tree: &mut Tree, form: Form) -> 
     ensures tree { OnOk result (tree.new ≡ after form tree.old) }
 {
     let applied = tree.apply(alloc, form)?;
-    let line = print_line(alloc, &applied.reply)?;
+    let Applied { reply, tree: next } = applied;
+    let line = print_line(alloc, &reply)?;
     text.extend_from_slice(&line)?;
-    if let Some(next) = applied.tree {
-        *tree = next;
-    }
+    let Some(next) = next else {
+        return Ok(());
+    };
+    *tree = next;
     Ok(())
 }
