@@ -80,8 +80,8 @@ impl Heap {
         u64::from(self.cells.get(r.place).size)
     }
 
-    // The depth of a term, which is at most 200.
-    pub(crate) fn depth(&self, r: Ref) -> u32
+    /// The depth of a term, which is at most 200.
+    pub fn depth(&self, r: Ref) -> u32
         requires { Holds self.now r }
         ensures depth { result ≡ depth_of (term_at self.now r) }
         ensures low { depth_of (term_at self.now r) ≤ most_depth }
