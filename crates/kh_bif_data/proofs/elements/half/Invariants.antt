@@ -1,0 +1,10 @@
+use Rattle.std.proofs.Common.{◌≡◌, map, take}
+use Rattle.kh_heap.specs.Heap.{term_at, terms_at, HoldsAll}
+use Rattle.kh_heap.specs.Parts.{pairs_in, side}
+use Rattle.kh_bif_data.proofs.elements.half.Given as goal
+
+abbrev pub invariant-loop-i : goal.invariant-loop-i
+invariant-loop-i l = record {
+  held : HoldsAll l.heap l.items.items;
+  terms : terms_at l.heap l.items.items ≡ take l.i (map (side l.half) (pairs_in (term_at l.heap l.r)));
+}

@@ -1,0 +1,10 @@
+pub mod Rows
+pub mod Asked
+pub mod Lists
+pub mod Maps
+pub mod Tuples
+pub mod Binaries
+pub mod Iolists
+pub mod Answer
+pub mod Built
+pub mod Laws
