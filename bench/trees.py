@@ -55,18 +55,29 @@ fn added<L: Ledger>(alloc: Global, count: u32, blank: Blank) -> Result<u64, Tree
     Ok(tree.node_count())
 }
 
+fn counted(alloc: Global, count: u32) -> Result<u64, TreeError> {
+    added::<Brand>(alloc, count, Blank::new(1))
+}
+
 fn main(rt: HostRuntime) -> io::Result<()> {
     for line in rt.lines(rt.alloc()) {
         let Ok(count) = line?.as_str().trim().parse::<u32>() else {
             continue;
         };
-        match added::<Brand>(rt.alloc(), count, Blank::new(1)) {
+        match counted(rt.alloc(), count) {
             Ok(nodes) => println!(rt; "{nodes}")?,
             Err(_) => println!(rt; "refused")?,
         }
     }
     Ok(())
 }
+"""
+# The steps are counted by the blank that is handed in.
+GHOSTS = """\
+use Rattle.trees.proofs.counted.Given as goal
+
+abbrev pub ghosts-added : goal.ghosts-added
+ghosts-added a = record { name = a.blank.name; parts = a.blank.parts }
 """
 
 
@@ -81,6 +92,8 @@ def built(repository, folder):
     program = folder / "crates/trees"
     (program / "src").mkdir(parents=True)
     (program / "src/main.rt").write_text(PROGRAM)
+    (program / "proofs/counted").mkdir(parents=True)
+    (program / "proofs/counted/Invariants.antt").write_text(GHOSTS)
     run = subprocess.run(["rt", "run"], cwd=program, stdin=subprocess.DEVNULL, capture_output=True, text=True)
     if run.returncode != 0:
         sys.exit(run.stdout + run.stderr)
