@@ -88,7 +88,6 @@ fn pattern(alloc: Global, what: &str) -> Result<PathPattern, NoMemory> {
     PathPattern::new(components).ok_or(NoMemory)
 }
 
-#[tactic(auto, using(kh_walk::proofs::Prepares::pattern_prepared))]
 fn found<P: Patterns>(
     alloc: Global,
     tree: &Tree<Proc>,
@@ -134,6 +133,20 @@ use Rattle.walks.proofs.tree_of.Given as goal
 abbrev pub ghosts-filled : goal.ghosts-filled
 ghosts-filled a = record { name = a.blank.name; parts = a.blank.parts }
 """
+PREPARED = """\
+use Rattle.std.proofs.Common.{◌≡◌, ℕ, List, ◌++◌, ap, ◌∙◌}
+use Rattle.kh_cond.specs.Texts.{added, pattern_texts}
+use Rattle.kh_walk.specs.Prepared.{lacking_in}
+use Rattle.kh_walk.proofs.Prepares.{pattern_prepared}
+use Rattle.walks.proofs.found.Goals as goal
+
+pub matching-requires : goal.matching-requires
+matching-requires g c =
+    let old : List (List ℕ) = g.P.Patterns.texts c.args.patterns.now in
+    let q = c.in_ok-pattern.pattern in
+    let all = c.in_ok-push_pattern_texts.ensures.ok ∙ ap (λ ts. ts ++ pattern_texts q) c.new-texts.ensures in
+    record { prepared = ap (λ known. lacking_in known q) (c.in_ok-prepare.ensures.texts ∙ ap (λ ts. old ++ added old ts) all) ∙ pattern_prepared old q }
+"""
 CRATES = ("kh_term", "kh_shared", "kh_pmap", "kh_tree", "kh_counts", "kh_regexes", "kh_cond", "kh_walk")
 
 
@@ -147,8 +160,9 @@ def built(repository, folder):
     program = folder / "crates/walks"
     (program / "src").mkdir(parents=True)
     (program / "src/main.rt").write_text(PROGRAM)
-    (program / "proofs/tree_of").mkdir(parents=True)
-    (program / "proofs/tree_of/Invariants.antt").write_text(GHOSTS)
+    for path, text in (("tree_of/Invariants.antt", GHOSTS), ("found/Answers.antt", PREPARED)):
+        (program / "proofs" / path).parent.mkdir(parents=True)
+        (program / "proofs" / path).write_text(text)
     run = subprocess.run(["rt", "run"], cwd=program, stdin=subprocess.DEVNULL, capture_output=True, text=True)
     if run.returncode != 0:
         sys.exit(run.stdout + run.stderr)
